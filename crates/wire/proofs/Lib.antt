@@ -1,0 +1,6 @@
+-- The laws that the crates above cite.
+pub mod Parts
+pub mod Same
+pub mod Numbers
+pub mod Copying
+pub mod Lent

@@ -1,0 +1,184 @@
+-- Laws of numbers in bytes, each once over the width. Assumes nothing.
+use mathlib.Core.Path.{_≡_, refl, sym, ap, ap₂, _∙_, subst}
+use mathlib.Core.List.{List, [], _∷_, _++_, reverse, reverse-append, reverse-reverse, reverse-cons}
+use Prim.Native.Nat.{ℕ, zero, suc, _+_, _-_, _*_, _/_, _%_, _^_, _≤_, _<_}
+use native.Mathlib.Nat.{pow-suc, add-mul, mul-assoc, mul-one, div-lt-iff-lt-mul, zero-add, suc-add, add-comm, one-le-pow, div-one, div-div-eq-div-mul, pow-succ'}
+use native.Mathlib.Omega.{arith}
+use lib.Arith.{mod-mul, digits-lt}
+use lib.ListN.{length, getD, length-append, length-reverse}
+use Rattle.wire.specs.Parts.{part}
+use Rattle.wire.specs.Numbers.{little, big, littleBytes, bigBytes, littleAt, bigAt}
+use Rattle.wire.proofs.Parts.{reads, part-add, part-reads, length-part}
+
+-- ---- bytes: each element is below 256
+
+abbrev pub Bytes : List ℕ → Type 0
+Bytes l = (i : ℕ) → getD l i 0 < 256
+
+pub bytes-append : (a b : List ℕ) → Bytes a → Bytes b → Bytes (a ++ b)
+bytes-append [] b ha hb i = hb i
+bytes-append (x ∷ a) b ha hb zero = ha zero
+bytes-append (x ∷ a) b ha hb (suc i) = bytes-append a b (λ j. ha (suc j)) hb i
+
+bytes-one : {x : ℕ} → x < 256 → Bytes (x ∷ [])
+bytes-one h zero = h
+bytes-one h (suc i) = omega arith
+
+pub bytes-reverse : (l : List ℕ) → Bytes l → Bytes (reverse l)
+bytes-reverse [] h = h
+bytes-reverse (x ∷ l) h =
+    rw (reverse-cons x l) (bytes-append (reverse l) (x ∷ []) (bytes-reverse l (λ i. h (suc i))) (bytes-one (h zero)))
+
+pub bytes-little : (n x : ℕ) → Bytes (littleBytes n x)
+unfolding littleBytes
+bytes-little zero x i = omega arith
+bytes-little (suc n) x zero = omega arith
+bytes-little (suc n) x (suc i) = bytes-little n (x / 256) i
+
+pub bytes-big : (n x : ℕ) → Bytes (bigBytes n x)
+unfolding bigBytes
+bytes-big n x = bytes-reverse (littleBytes n x) (bytes-little n x)
+
+-- ---- lengths and bounds
+
+pub length-little : (n x : ℕ) → length (littleBytes n x) ≡ n
+unfolding littleBytes
+length-little zero x = refl
+length-little (suc n) x = ap suc (length-little n (x / 256))
+
+pub length-big : (n x : ℕ) → length (bigBytes n x) ≡ n
+unfolding bigBytes
+length-big n x = length-reverse (littleBytes n x) ∙ length-little n x
+
+-- n bytes are a number below 256 ^ n
+pub little-lt : (l : List ℕ) → Bytes l → little l < 256 ^ length l
+unfolding little
+little-lt [] h = omega arith
+little-lt (b ∷ l) h =
+    rw (pow-suc 256 (length l), add-comm b (little l * 256)) (digits-lt (little-lt l (λ i. h (suc i))) (h zero))
+
+pub big-lt : (l : List ℕ) → Bytes l → big l < 256 ^ length l
+unfolding big
+big-lt l h = subst (λ (n : ℕ). little (reverse l) < 256 ^ n) (length-reverse l) (little-lt (reverse l) (bytes-reverse l h))
+
+-- ---- put and read, read and put
+
+-- a number that n bytes hold, put in n bytes and read
+pub little-back : (n x : ℕ) → x < 256 ^ n → little (littleBytes n x) ≡ x
+unfolding little littleBytes
+little-back zero x h = omega arith
+little-back (suc n) x h =
+    let g : x < 256 ^ n * 256 = rw (pow-suc 256 n) at h in
+    rw (little-back n (x / 256) (div-lt-iff-lt-mul (omega arith) .1 g)) (omega arith)
+
+pub big-back : (n x : ℕ) → x < 256 ^ n → big (bigBytes n x) ≡ x
+unfolding big bigBytes
+big-back n x h = ap little (reverse-reverse (littleBytes n x)) ∙ little-back n x h
+
+-- bytes, read and put in as many
+pub little-again : (l : List ℕ) → Bytes l → littleBytes (length l) (little l) ≡ l
+unfolding little littleBytes
+little-again [] h = refl
+little-again (b ∷ l) h =
+    let hb : b < 256 = h zero in
+    let lo : (b + little l * 256) % 256 ≡ b = omega arith in
+    let hi : (b + little l * 256) / 256 ≡ little l = omega arith in
+    rw (lo, hi, little-again l (λ i. h (suc i)))
+
+pub big-again : (l : List ℕ) → Bytes l → bigBytes (length l) (big l) ≡ l
+unfolding big bigBytes
+big-again l h =
+    ap (λ (n : ℕ). reverse (littleBytes n (little (reverse l)))) (sym (length-reverse l))
+    ∙ ap reverse (little-again (reverse l) (bytes-reverse l h))
+    ∙ reverse-reverse l
+
+-- ---- two numbers side by side
+
+pub little-append : (a b : List ℕ) → little (a ++ b) ≡ little a + little b * 256 ^ length a
+unfolding little
+little-append [] b = rw (mul-one (little b)) (sym (zero-add (little b)))
+little-append (x ∷ a) b =
+    let e : little b * 256 ^ suc (length a) ≡ little b * 256 ^ length a * 256 = ap (λ (z : ℕ). little b * z) (pow-suc 256 (length a)) ∙ sym (mul-assoc (little b) (256 ^ length a) 256) in
+    rw (little-append a b, e, add-mul (little a) (little b * 256 ^ length a) 256) (omega arith)
+
+pub big-append : (a b : List ℕ) → big (a ++ b) ≡ big a * 256 ^ length b + big b
+unfolding big
+big-append a b =
+    ap little (reverse-append a b)
+    ∙ little-append (reverse b) (reverse a)
+    ∙ ap (λ (n : ℕ). little (reverse b) + little (reverse a) * 256 ^ n) (length-reverse b)
+    ∙ add-comm (little (reverse b)) (little (reverse a) * 256 ^ length b)
+
+-- a number of m + n bytes, read in two
+pub littleAt-add : (m n : ℕ) (l : List ℕ) (o : ℕ) → o + m ≤ length l → littleAt (m + n) l o ≡ littleAt m l o + littleAt n l (o + m) * 256 ^ m
+unfolding littleAt
+littleAt-add m n l o h =
+    ap little (part-add l o m n)
+    ∙ little-append (part l o m) (part l (o + m) n)
+    ∙ ap (λ (k : ℕ). little (part l o m) + little (part l (o + m) n) * 256 ^ k) (length-part l o m h)
+
+pub bigAt-add : (m n : ℕ) (l : List ℕ) (o : ℕ) → o + m + n ≤ length l → bigAt (m + n) l o ≡ bigAt m l o * 256 ^ n + bigAt n l (o + m)
+unfolding bigAt
+bigAt-add m n l o h =
+    ap big (part-add l o m n)
+    ∙ big-append (part l o m) (part l (o + m) n)
+    ∙ ap (λ (k : ℕ). big (part l o m) * 256 ^ k + big (part l (o + m) n)) (length-part l (o + m) n h)
+
+-- the high bytes of a number do not reach its low ones
+pub little-mod : (n x : ℕ) → littleBytes n (x % 256 ^ n) ≡ littleBytes n x
+unfolding littleBytes
+little-mod zero x = refl
+little-mod (suc n) x =
+    let p : 0 < 256 ^ n = one-le-pow n 256 (omega arith) in
+    let e : x % 256 ^ suc n ≡ (x / 256 % 256 ^ n) * 256 + x % 256 = ap (λ (z : ℕ). x % z) (pow-suc 256 n) ∙ mod-mul x p (omega arith) in
+    let lo : (x / 256 % 256 ^ n * 256 + x % 256) % 256 ≡ x % 256 = omega arith in
+    let hi : (x / 256 % 256 ^ n * 256 + x % 256) / 256 ≡ x / 256 % 256 ^ n = omega arith in
+    rw (e, lo, hi, little-mod n (x / 256))
+
+-- a number of m + n bytes, put in two
+pub little-add : (m n x : ℕ) → littleBytes (m + n) x ≡ littleBytes m x ++ littleBytes n (x / 256 ^ m)
+unfolding littleBytes
+little-add zero n x = rw (zero-add, div-one)
+little-add (suc m) n x =
+    let e : x / 256 / 256 ^ m ≡ x / 256 ^ suc m = div-div-eq-div-mul x 256 (256 ^ m) ∙ ap (λ (z : ℕ). x / z) (sym (pow-succ' 256 m)) in
+    rw (suc-add, little-add m n (x / 256), e)
+
+pub big-add : (m n x : ℕ) → bigBytes (m + n) x ≡ bigBytes n (x / 256 ^ m) ++ bigBytes m x
+unfolding bigBytes
+big-add m n x = ap reverse (little-add m n x) ∙ reverse-append (littleBytes m x) (littleBytes n (x / 256 ^ m))
+
+pub big-mod : (n x : ℕ) → bigBytes n (x % 256 ^ n) ≡ bigBytes n x
+unfolding bigBytes
+big-mod n x = ap reverse (little-mod n x)
+
+-- ---- a number at a place, its bytes written out: `reads` computes where n is a numeral
+
+pub littleAt-reads : (n : ℕ) (l : List ℕ) (o : ℕ) → o + suc n ≤ length l → littleAt (suc n) l o ≡ little (getD l o 0 ∷ reads l o 1 0 n)
+unfolding littleAt
+littleAt-reads n l o h = ap little (part-reads l o n 0 h)
+
+pub bigAt-reads : (n : ℕ) (l : List ℕ) (o : ℕ) → o + suc n ≤ length l → bigAt (suc n) l o ≡ big (getD l o 0 ∷ reads l o 1 0 n)
+unfolding bigAt
+bigAt-reads n l o h = ap big (part-reads l o n 0 h)
+
+-- ---- the bytes of a number that two and four bytes hold, by division
+
+pub little-two : (x : ℕ) → x < 256 ^ 2 → littleBytes 2 x ≡ x % 256 ∷ x / 256 ∷ []
+unfolding littleBytes
+little-two x h =
+    let e : x / 256 % 256 ≡ x / 256 = omega arith in
+    rw e
+
+pub little-four : (x : ℕ) → x < 256 ^ 4 → littleBytes 4 x ≡ x % 256 ∷ x / 256 % 256 ∷ x / 65536 % 256 ∷ x / 16777216 ∷ []
+unfolding littleBytes
+little-four x h =
+    let e : x / 256 / 256 / 256 % 256 ≡ x / 16777216 = omega arith in
+    let f : x / 256 / 256 % 256 ≡ x / 65536 % 256 = omega arith in
+    rw (e, f)
+
+-- a number of eight bytes, by its halves
+pub little-eight : (x : ℕ) → littleBytes 4 (x % 4294967296) ++ littleBytes 4 (x / 4294967296) ≡ littleBytes 8 x
+little-eight x = sym (little-add 4 4 x ∙ ap (λ (l : List ℕ). l ++ littleBytes 4 (x / 4294967296)) (sym (little-mod 4 x)))
+
+pub big-eight : (x : ℕ) → bigBytes 4 (x / 4294967296) ++ bigBytes 4 (x % 4294967296) ≡ bigBytes 8 x
+big-eight x = sym (big-add 4 4 x ∙ ap (λ (l : List ℕ). bigBytes 4 (x / 4294967296) ++ l) (sym (big-mod 4 x)))

@@ -1,0 +1,234 @@
+-- Laws of parts and splices, each once over place and length. Assumes nothing.
+use mathlib.Core.Path.{_≡_, refl, sym, ap, _∙_}
+use mathlib.Core.List.{List, [], _∷_, _++_, append-assoc, append-nil}
+use mathlib.Core.Logic.{_⊎_, inl, inr, ⊎-elim}
+use Prim.Native.Nat.{ℕ, zero, suc, _+_, _-_, _≤_, _<_}
+use native.Mathlib.Nat.{sub-zero, zero-sub, suc-sub-suc}
+use native.Mathlib.Omega.{arith}
+use native.Mathlib.Numerals.{add-one}
+use lib.ListN.{length, take, drop, getD, set, length-append, length-drop, take-append-drop}
+use lib.Seq.{sets, sets-eq, take-all, take-nil, length-take-le, take-at, drop-at, take-append-le, drop-append-le, take-take, drop-drop, take-add, drop-append-add, getD-take, getD-drop, drop-cons}
+use Rattle.wire.specs.Parts.{part, splice}
+
+module _ {A : Type 0} where
+  -- past the first of two lists
+  drop-right : (a b : List A) (p : ℕ) → length a ≤ p → drop p (a ++ b) ≡ drop (p - length a) b
+  drop-right a b p h =
+      let e : length a + (p - length a) ≡ p = omega arith in
+      ap (λ (k : ℕ). drop k (a ++ b)) (sym e) ∙ drop-append-add a b (p - length a)
+
+  drop-take : (k n : ℕ) (l : List A) → drop k (take n l) ≡ take (n - k) (drop k l)
+  drop-take zero n l = rw sub-zero
+  drop-take (suc k) zero l = rw zero-sub
+  drop-take (suc k) (suc n) [] = sym (take-nil (suc n - suc k))
+  drop-take (suc k) (suc n) (x ∷ l) = rw suc-sub-suc (drop-take k n l)
+
+  pub length-part : (l : List A) (o n : ℕ) → o + n ≤ length l → length (part l o n) ≡ n
+  unfolding part
+  length-part l o n h = length-take-le n (drop o l) (omega (arith, length-drop o l))
+
+  -- the part that is all
+  pub part-all : (l : List A) (n : ℕ) → length l ≤ n → part l 0 n ≡ l
+  unfolding part
+  part-all l n h = take-all n l h
+
+  -- a part that runs past the end is what is there
+  pub part-cut : (l : List A) (o n : ℕ) → length l ≤ o + n → part l o n ≡ drop o l
+  unfolding part
+  part-cut l o n h = take-all n (drop o l) (omega (arith, length-drop o l))
+
+  -- two parts side by side are one
+  pub part-add : (l : List A) (o m n : ℕ) → part l o (m + n) ≡ part l o m ++ part l (o + m) n
+  unfolding part
+  part-add l o m n = take-add m n (drop o l) ∙ ap (λ (z : List A). take m (drop o l) ++ take n z) (drop-drop m o l)
+
+  -- a part of a part
+  pub part-part : (l : List A) (o n p m : ℕ) → p + m ≤ n → part (part l o n) p m ≡ part l (o + p) m
+  unfolding part
+  part-part l o n p m h =
+      ap (take m) (drop-take p n (drop o l))
+      ∙ take-take m (n - p) (drop p (drop o l)) (omega arith)
+      ∙ ap (take m) (drop-drop p o l)
+
+  -- an element of a part
+  pub getD-part : (l : List A) (o n i : ℕ) (d : A) → i < n → getD (part l o n) i d ≡ getD l (o + i) d
+  unfolding part
+  getD-part l o n i d h = getD-take n (drop o l) i d h ∙ getD-drop o l i d
+
+  -- the first element of a part, and the others
+  pub part-cons : (l : List A) (o n : ℕ) (d : A) → o < length l → part l o (suc n) ≡ getD l o d ∷ part l (suc o) n
+  unfolding part
+  part-cons l o n d h = ap (take (suc n)) (drop-cons l o d h)
+
+  -- a part within the first of two lists
+  pub part-left : (a b : List A) (p n : ℕ) → p + n ≤ length a → part (a ++ b) p n ≡ part a p n
+  unfolding part
+  part-left a b p n h =
+      ap (take n) (drop-append-le p a b (omega arith))
+      ∙ take-append-le n (drop p a) b (omega (arith, length-drop p a))
+
+  -- a part within the second of two lists
+  pub part-right : (a b : List A) (p n : ℕ) → part (a ++ b) (length a + p) n ≡ part b p n
+  unfolding part
+  part-right a b p n = ap (take n) (drop-append-add a b p)
+
+  module _ (l : List A) (o : ℕ) (v : List A) (fits : o + length v ≤ length l) where
+    head-length : length (take o l ++ v) ≡ o + length v
+    head-length = simp (length-append, length-take-le o l (omega arith))
+
+    pub length-splice : length (splice l o v) ≡ length l
+    unfolding splice
+    length-splice = simp (length-append, length-take-le o l (omega arith), length-drop) (omega arith)
+
+    -- what was put is read back
+    pub part-same : part (splice l o v) o (length v) ≡ v
+    unfolding part splice
+    part-same =
+        ap (λ (z : List A). take (length v) (drop o z)) (append-assoc (take o l) v (drop (o + length v) l))
+        ∙ ap (take (length v)) (drop-at (take o l) (v ++ drop (o + length v) l) o (length-take-le o l (omega arith)))
+        ∙ take-at v (drop (o + length v) l) (length v) refl
+
+    -- a part that ends before is as it was
+    pub part-before : (p n : ℕ) → p + n ≤ o → part (splice l o v) p n ≡ part l p n
+    unfolding splice
+    part-before p n h =
+        let lt : length (take o l) ≡ o = length-take-le o l (omega arith) in
+        ap (λ (z : List A). part z p n) (append-assoc (take o l) v (drop (o + length v) l))
+        ∙ part-left (take o l) (v ++ drop (o + length v) l) p n (omega arith)
+        ∙ sym (part-left (take o l) (drop o l) p n (omega arith))
+        ∙ ap (λ (z : List A). part z p n) (take-append-drop o l)
+
+    -- what follows is as it was
+    pub drop-after : (p : ℕ) → o + length v ≤ p → drop p (splice l o v) ≡ drop p l
+    unfolding splice
+    drop-after p h =
+        let e : o + length v + (p - length (take o l ++ v)) ≡ p = omega (arith, head-length) in
+        drop-right (take o l ++ v) (drop (o + length v) l) p (omega (arith, head-length))
+        ∙ drop-drop (p - length (take o l ++ v)) (o + length v) l
+        ∙ ap (λ (k : ℕ). drop k l) e
+
+    -- a part that starts after is as it was
+    pub part-after : (p n : ℕ) → o + length v ≤ p → part (splice l o v) p n ≡ part l p n
+    unfolding part
+    part-after p n h = ap (take n) (drop-after p h)
+
+    -- a part that does not meet what was put is as it was
+    pub part-other : (p n : ℕ) → (p + n ≤ o) ⊎ (o + length v ≤ p) → part (splice l o v) p n ≡ part l p n
+    part-other p n w = ⊎-elim (part-before p n) (part-after p n) w
+
+    -- a part of what was put
+    pub part-within : (p n : ℕ) → p + n ≤ length v → part (splice l o v) (o + p) n ≡ part v p n
+    part-within p n h =
+        sym (part-part (splice l o v) o (length v) p n h) ∙ ap (λ (z : List A). part z p n) part-same
+
+  -- two that follow each other are one
+  pub splice-join : (l : List A) (o : ℕ) (v w : List A) → o + length v + length w ≤ length l → splice (splice l o v) (o + length v) w ≡ splice l o (v ++ w)
+  unfolding splice
+  splice-join l o v w fits =
+      let hl : length (take o l ++ v) ≡ o + length v = head-length l o v (omega arith) in
+      let e : o + length v + length w ≡ o + length (v ++ w) = omega (arith, length-append v w) in
+      ap (λ (z : List A). z ++ w ++ drop (o + length v + length w) (take o l ++ v ++ drop (o + length v) l))
+      (take-at (take o l ++ v) (drop (o + length v) l) (o + length v) hl)
+      ∙ ap (λ (z : List A). take o l ++ v ++ w ++ z)
+      (drop-after l o v (omega arith) (o + length v + length w) (omega arith) ∙ ap (λ (k : ℕ). drop k l) e)
+      ∙ ap (λ (z : List A). z ++ drop (o + length (v ++ w)) l) (append-assoc (take o l) v w)
+
+  -- one more put after a run of puts from o
+  pub splice-then : (l : List A) (o : ℕ) (v w : List A) {m n : List A} → o + length v + length w ≤ length l → m ≡ splice l o v → n ≡ splice m (o + length v) w → n ≡ splice l o (v ++ w)
+  splice-then l o v w h p q = q ∙ ap (λ (z : List A). splice z (o + length v) w) p ∙ splice-join l o v w h
+
+  -- what was put inside of a part, said of the whole
+  pub splice-inside : (l : List A) (a n o : ℕ) (v : List A) → a + n ≤ length l → o + length v ≤ n → splice l a (splice (part l a n) o v) ≡ splice l (a + o) v
+  unfolding splice part
+  splice-inside l a n o v fits inn =
+      let d : List A = drop a l in
+      let p : List A = take n (drop a l) in
+      let k : ℕ = o + length v in
+      let lp : length (take n (drop a l)) ≡ n = length-take-le n (drop a l) (omega (arith, length-drop a l)) in
+      let ls : length (take o p ++ v ++ drop k p) ≡ n = length-splice p o v (omega arith) ∙ lp in
+      let sum : a + k ≡ a + o + length v = omega arith in
+      let rest : drop k p ++ drop (a + n) l ≡ drop (a + o + length v) l =
+      ap (λ (z : List A). drop k p ++ z) (sym (drop-drop n a l))
+      ∙ sym (drop-append-le k p (drop n d) (omega arith))
+      ∙ ap (drop k) (take-append-drop n d)
+      ∙ drop-drop k a l
+      ∙ ap (λ (z : ℕ). drop z l) sum
+      in
+      ap (λ (z : ℕ). take a l ++ (take o p ++ v ++ drop k p) ++ drop (a + z) l) ls
+      ∙ append-assoc (take a l) (take o p ++ v ++ drop k p) (drop (a + n) l)
+      ∙ ap (λ (z : List A). take a l ++ z) (append-assoc (take o p ++ v) (drop k p) (drop (a + n) l))
+      ∙ ap (λ (z : List A). take a l ++ (take o p ++ v ++ z)) rest
+      ∙ ap (λ (z : List A). take a l ++ (z ++ v ++ drop (a + o + length v) l)) (take-take o n d (omega arith))
+      ∙ sym (append-assoc (take a l) (take o d ++ v) (drop (a + o + length v) l))
+      ∙ ap (λ (z : List A). z ++ drop (a + o + length v) l) (sym (append-assoc (take a l) (take o d) v))
+      ∙ ap (λ (z : List A). z ++ v ++ drop (a + o + length v) l) (sym (take-add a o l))
+
+  -- what was put inside of a part, read as that part
+  pub part-inside : (l : List A) (a n o : ℕ) (v : List A) → a + n ≤ length l → o + length v ≤ n → part (splice l (a + o) v) a n ≡ splice (part l a n) o v
+  part-inside l a n o v fits inn =
+      let x : List A = splice (part l a n) o v in
+      let lp : length (part l a n) ≡ n = length-part l a n fits in
+      let lx : length (splice (part l a n) o v) ≡ n = length-splice (part l a n) o v (omega arith) ∙ lp in
+      ap (λ (z : List A). part z a n) (sym (splice-inside l a n o v fits inn))
+      ∙ ap (part (splice l a x) a) (sym lx)
+      ∙ part-same l a x (omega arith)
+
+  -- what stands there, put there again
+  pub splice-part : (l : List A) (o n : ℕ) → o + n ≤ length l → splice l o (part l o n) ≡ l
+  unfolding splice part
+  splice-part l o n h =
+      let e : length (take n (drop o l)) ≡ n = length-take-le n (drop o l) (omega (arith, length-drop o l)) in
+      ap (λ (k : ℕ). take o l ++ take n (drop o l) ++ drop (o + k) l) e
+      ∙ append-assoc (take o l) (take n (drop o l)) (drop (o + n) l)
+      ∙ ap (λ (z : List A). take o l ++ (take n (drop o l) ++ z)) (sym (drop-drop n o l))
+      ∙ ap (λ (z : List A). take o l ++ z) (take-append-drop n (drop o l))
+      ∙ take-append-drop o l
+
+  -- the whole, from what stands before a splice, in it and after it
+  pub splice-parts : (l : List A) (o : ℕ) (v : List A) → splice l o v ≡ part l 0 o ++ (v ++ drop (o + length v) l)
+  unfolding splice part
+  splice-parts l o v = append-assoc (take o l) v (drop (o + length v) l)
+
+  -- put twice at one place: the second stays
+  pub splice-over : (l : List A) (o : ℕ) (v w : List A) → o + length v ≤ length l → length w ≡ length v → splice (splice l o v) o w ≡ splice l o w
+  unfolding splice
+  splice-over l o v w h e =
+      let lt : length (take o l) ≡ o = length-take-le o l (omega arith) in
+      ap (λ (z : List A). z ++ w ++ drop (o + length w) (splice l o v))
+      (ap (take o) (append-assoc (take o l) v (drop (o + length v) l)) ∙ take-at (take o l) (v ++ drop (o + length v) l) o lt)
+      ∙ ap (λ (z : List A). take o l ++ w ++ z) (drop-after l o v h (o + length w) (omega arith))
+
+  -- a run of stores at o, o + 1, o + 2 .. is a splice
+  abbrev pub stores : List A → ℕ → ℕ → List A → List A
+  stores l o k [] = l
+  stores l o k (v ∷ vs) = stores (set l (o + k) v) o (k + 1) vs
+
+  stores-sets : (l : List A) (o k : ℕ) (vs : List A) → stores l o k vs ≡ sets l (o + k) vs
+  stores-sets l o k [] = refl
+  stores-sets l o k (v ∷ vs) =
+      let e : o + (k + 1) ≡ suc (o + k) = omega arith in
+      stores-sets (set l (o + k) v) o (k + 1) vs ∙ ap (λ (z : ℕ). sets (set l (o + k) v) z vs) e
+
+  pub stores-splice : (l : List A) (o : ℕ) (v : A) (vs : List A) → o + length (v ∷ vs) ≤ length l → stores (set l o v) o 1 vs ≡ splice l o (v ∷ vs)
+  unfolding splice
+  stores-splice l o v vs h = stores-sets (set l o v) o 1 vs ∙ ap (λ (z : ℕ). sets (set l o v) z vs) (add-one o) ∙ sets-eq (v ∷ vs) l o h
+
+  -- the elements at o, o + 1, o + 2 .. are a part
+  abbrev pub reads : List A → ℕ → ℕ → A → ℕ → List A
+  reads l o k d zero = []
+  reads l o k d (suc n) = getD l (o + k) d ∷ reads l o (k + 1) d n
+
+  part-at : (l : List A) (o k : ℕ) (d : A) (n : ℕ) → o + k + n ≤ length l → part l (o + k) n ≡ reads l o k d n
+  unfolding part
+  part-at l o k d zero h = refl
+  part-at l o k d (suc n) h =
+      let e : suc (o + k) ≡ o + (k + 1) = omega arith in
+      part-cons l (o + k) n d (omega arith)
+      ∙ ap (λ (z : ℕ). getD l (o + k) d ∷ part l z n) e
+      ∙ ap (λ (z : List A). getD l (o + k) d ∷ z) (part-at l o (k + 1) d n (omega arith))
+
+  pub part-reads : (l : List A) (o n : ℕ) (d : A) → o + suc n ≤ length l → part l o (suc n) ≡ getD l o d ∷ reads l o 1 d n
+  part-reads l o n d h =
+      part-cons l o n d (omega arith)
+      ∙ ap (λ (z : ℕ). getD l o d ∷ part l z n) (sym (add-one o))
+      ∙ ap (λ (z : List A). getD l o d ∷ z) (part-at l o 1 d n (omega arith))

@@ -1,0 +1,29 @@
+-- Numbers in bytes, either byte first, for every width.
+use mathlib.Core.List.{List, [], _∷_, reverse}
+use Prim.Native.Nat.{ℕ, zero, suc, _+_, _*_, _/_, _%_}
+use Rattle.wire.specs.Parts.{part}
+
+-- the number that some bytes are, the low byte first
+unfoldable pub little : List ℕ → ℕ
+little [] = 0
+little (b ∷ bs) = b + little bs * 256
+
+-- the number that some bytes are, the high byte first
+unfoldable pub big : List ℕ → ℕ
+big bs = little (reverse bs)
+
+-- the n low bytes of x, the low byte first
+unfoldable pub littleBytes : ℕ → ℕ → List ℕ
+littleBytes zero x = []
+littleBytes (suc n) x = x % 256 ∷ littleBytes n (x / 256)
+
+-- the n low bytes of x, the high byte first
+unfoldable pub bigBytes : ℕ → ℕ → List ℕ
+bigBytes n x = reverse (littleBytes n x)
+
+-- the number of n bytes at place o of l
+unfoldable pub littleAt : ℕ → List ℕ → ℕ → ℕ
+littleAt n l o = little (part l o n)
+
+unfoldable pub bigAt : ℕ → List ℕ → ℕ → ℕ
+bigAt n l o = big (part l o n)
