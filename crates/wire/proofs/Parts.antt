@@ -6,7 +6,7 @@ use Prim.Native.Nat.{ℕ, zero, suc, _+_, _-_, _≤_, _<_}
 use native.Mathlib.Nat.{sub-zero, zero-sub, suc-sub-suc}
 use native.Mathlib.Omega.{arith}
 use native.Mathlib.Numerals.{add-one}
-use lib.ListN.{length, take, drop, getD, set, length-append, length-drop, take-append-drop}
+use lib.ListN.{length, take, drop, getD, set, length-append, length-drop, take-append-drop, drop-of-length-le}
 use lib.Seq.{sets, sets-eq, take-all, take-nil, length-take-le, take-at, drop-at, take-append-le, drop-append-le, take-take, drop-drop, take-add, drop-append-add, getD-take, getD-drop, drop-cons}
 use Rattle.wire.specs.Parts.{part, splice}
 
@@ -188,6 +188,13 @@ module _ {A : Type 0} where
   pub splice-parts : (l : List A) (o : ℕ) (v : List A) → splice l o v ≡ part l 0 o ++ (v ++ drop (o + length v) l)
   unfolding splice part
   splice-parts l o v = append-assoc (take o l) v (drop (o + length v) l)
+
+  -- what is put in the place of all
+  pub splice-all : (l v : List A) → length v ≡ length l → splice l 0 v ≡ v
+  unfolding splice
+  splice-all l v e =
+      let none : drop (0 + length v) l ≡ [] = drop-of-length-le l {i = 0 + length v} (omega arith) in
+      rw none (append-nil v)
 
   -- put twice at one place: the second stays
   pub splice-over : (l : List A) (o : ℕ) (v w : List A) → o + length v ≤ length l → length w ≡ length v → splice (splice l o v) o w ≡ splice l o w
