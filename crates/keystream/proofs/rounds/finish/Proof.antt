@@ -54,7 +54,7 @@ loop-again c =
     )
 
 returns : tie.Need-returns Inv-loop μ-loop
-returns c = 
+returns c =
     let n = long (c .before .before) in
     let e : c .before .loop .i ≡ 16 = omega arith in
     finish-all _ _ _ (n .0) (n .1) refl _ _ e (c .before .loop .inv .1)

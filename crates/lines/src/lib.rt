@@ -1,0 +1,148 @@
+// The lists that the check programs replay: a case a line, its fields parted by one space, bytes as hex digits.
+ghost use mathlib.Core.Path.{_≡_};
+ghost use Prim.Native.Nat.{_≤_, _<_};
+ghost use lib.ListN.{length};
+
+const SPACE: u8 = 32;
+
+const NEWLINE: u8 = 10;
+
+fn ends(b: u8, own: u8) -> bool {
+    b == NEWLINE || b == own
+}
+
+// Where what stands at a place ends: at a byte of its own, a line's end or the text's.
+fn end_of(text: &[u8], at: usize, own: u8) -> usize
+    requires { ⌜ at ≤ length (now text) ⌝ }
+    ensures { λ r. ⌜ (at ≤ r) × (r ≤ length (now (text .entry))) ⌝ }
+{
+    let mut i = at;
+    while i < text.len() {
+        if ends(text[i], own) {
+            return i;
+        }
+        i += 1;
+    }
+    i
+}
+
+// The field at a place; past the text's end there is none, and it is empty.
+pub fn field(text: &[u8], at: usize) -> &[u8] {
+    if text.len() < at {
+        return &text[0..0];
+    }
+    let end = end_of(text, at, SPACE);
+    &text[at..end]
+}
+
+// The place after what stands at a place and ends at a byte of its own, at most the text's end.
+fn past(text: &[u8], at: usize, own: u8) -> usize
+    ensures { λ r. ⌜ (r ≤ length (now (text .entry))) × (at < length (now (text .entry)) → at < r) ⌝ }
+{
+    if text.len() <= at {
+        return text.len();
+    }
+    let end = end_of(text, at, own);
+    if end < text.len() { end + 1 } else { end }
+}
+
+// The place after the field at a place.
+pub fn after(text: &[u8], at: usize) -> usize
+    ensures { λ r. ⌜ (r ≤ length (now (text .entry))) × (at < length (now (text .entry)) → at < r) ⌝ }
+{
+    past(text, at, SPACE)
+}
+
+// The place after the line at a place.
+pub fn after_line(text: &[u8], at: usize) -> usize
+    requires { ⌜ at < length (now text) ⌝ }
+    ensures { λ r. ⌜ (at < r) × (r ≤ length (now (text .entry))) ⌝ }
+{
+    past(text, at, NEWLINE)
+}
+
+// The value of a hex digit; 16 where a byte is none.
+fn digit(b: u8) -> u8
+    ensures { λ r. ⌜ r ≤ 16 ⌝ }
+{
+    if b < 48 {
+        return 16;
+    }
+    if b <= 57 {
+        return b - 48;
+    }
+    if b < 97 {
+        return 16;
+    }
+    if b <= 102 {
+        return b - 87;
+    }
+    16
+}
+
+// What a field was read as: how many bytes or which number; or it is not of its kind.
+pub enum Got {
+    Of(u64),
+    Bad,
+}
+
+// The byte of two hex digits; 256 where they are none.
+fn pair(high: u8, low: u8) -> u16
+    ensures { λ r. ⌜ r ≤ 256 ⌝ }
+{
+    let h = digit(high);
+    let l = digit(low);
+    if h == 16 {
+        return 256;
+    }
+    if l == 16 {
+        return 256;
+    }
+    (h * 16 + l) as u16
+}
+
+// A field of hex digits as bytes at the start of a buffer, and their count.
+pub fn bytes(field: &[u8], out: &mut [u8]) -> Got {
+    let n = field.len() / 2;
+    if field.len() % 2 == 1 {
+        return Got::Bad;
+    }
+    if out.len() < n {
+        return Got::Bad;
+    }
+    let mut i = 0;
+    while i < n {
+        let b = pair(field[2 * i], field[2 * i + 1]);
+        if 255 < b {
+            return Got::Bad;
+        }
+        out[i] = b as u8;
+        i += 1;
+    }
+    Got::Of(n as u64)
+}
+
+// A field of decimal digits as a number below 2 ^ 64.
+pub fn number(field: &[u8]) -> Got {
+    if field.len() == 0 {
+        return Got::Bad;
+    }
+    let mut x: u64 = 0;
+    let mut i = 0;
+    while i < field.len() {
+        let d = digit(field[i]);
+        if 9 < d {
+            return Got::Bad;
+        }
+        if 1844674407370955160 < x {
+            return Got::Bad;
+        }
+        let ten = x * 10;
+        if 18446744073709551615 - ten < d as u64 {
+            return Got::Bad;
+        }
+        x = ten + d as u64;
+        i += 1;
+    }
+    Got::Of(x)
+}
