@@ -1,11 +1,11 @@
 -- Laws of the mask, each once over place and length: a turn of its loop, what it leaves, and that twice is not at all. Assumes nothing.
 use mathlib.Core.Path.{_≡_, refl, sym, ap, ap₂, _∙_}
-use mathlib.Core.List.{List, [], _∷_}
+use mathlib.Core.List.{List, [], _∷_, _++_, append-assoc}
 use mathlib.Core.Logic.{_⊎_, inl, inr, ⊎-elim}
 use Prim.Native.Nat.{ℕ, zero, suc, _+_, _-_, _<_, _≤_}
 use native.Mathlib.Omega.{arith}
 use lib.Bits.{bitXor}
-use lib.ListN.{length, getD, set, take}
+use lib.ListN.{length, getD, set, take, drop}
 use borrow.Rule.Slice.PartMut.{putMid, midOf}
 use Rattle.wire.specs.Parts.{part, splice}
 use Rattle.wire.proofs.Parts.{length-part, length-splice, part-same, part-other, splice-over, splice-part}
@@ -50,44 +50,65 @@ xor-twice (a ∷ l) (b ∷ k) = ap₂ (λ (x : ℕ) (m : List ℕ). x ∷ m) (bi
 
 -- ---- the mask over a range
 
+-- as a splice, where the range lies in the list
+masked-splice : (l k : List ℕ) (from n : ℕ) → from + n ≤ length l → masked l from n k ≡ splice l from (xorWith (part l from n) k)
+unfolding masked splice
+masked-splice l k from n h =
+    let x = xorWith (part l from n) k in
+    let lx : length x ≡ n = length-xor (part l from n) k ∙ length-part l from n h in
+    sym (append-assoc (take from l) x (drop (from + n) l))
+    ∙ ap (λ (m : ℕ). take from l ++ x ++ drop (from + m) l) (sym lx)
+
 -- a part that was lent from a to e, XORed and put back
 pub masked-lent : (l : List ℕ) {k k′ ys : List ℕ} (a e n : ℕ) → a + n ≤ length l → e ≡ a + n → k′ ≡ k → ys ≡ xorWith (midOf a (e - a) l) k′ → putMid a (e - a) l ys ≡ masked l a n k
-unfolding masked part
+unfolding part
 masked-lent l {k} {k′} {ys} a e n h q ek ey =
     let m : e - a ≡ n = omega arith in
     let lx : length (xorWith (part l a n) k′) ≡ n = length-xor (part l a n) k′ ∙ length-part l a n h in
     let ez : ys ≡ xorWith (part l a n) k′ = ey ∙ ap (λ (z : ℕ). xorWith (part l a z) k′) m in
     let ly : length ys ≡ e - a = ap length ez ∙ lx ∙ sym m in
-    lent-part l a e ys (omega arith) ly ∙ ap (splice l a) (ez ∙ ap (xorWith (part l a n)) ek)
+    lent-part l a e ys (omega arith) ly
+    ∙ ap (splice l a) (ez ∙ ap (xorWith (part l a n)) ek)
+    ∙ sym (masked-splice l k a n h)
 
 module _ (l k : List ℕ) (from n : ℕ) (fits : from + n ≤ length l) where
-  long : length (xorWith (part l from n) k) ≡ n
+  x : List ℕ
+  x = xorWith (part l from n) k
+
+  long : length x ≡ n
+  unfolding x
   long = length-xor (part l from n) k ∙ length-part l from n fits
 
+  whole : masked l from n k ≡ splice l from x
+  unfolding x
+  whole = masked-splice l k from n fits
+
   pub length-masked : length (masked l from n k) ≡ length l
-  unfolding masked
-  length-masked = length-splice l from (xorWith (part l from n) k) (omega (arith, long))
+  length-masked = ap length whole ∙ length-splice l from x (omega (arith, long))
 
   -- the range is XORed
   pub masked-part : part (masked l from n k) from n ≡ xorWith (part l from n) k
-  unfolding masked
+  unfolding x
   masked-part =
-      ap (part (splice l from (xorWith (part l from n) k)) from) (sym long)
-      ∙ part-same l from (xorWith (part l from n) k) (omega (arith, long))
+      ap (λ (z : List ℕ). part z from n) whole
+      ∙ ap (part (splice l from x) from) (sym long)
+      ∙ part-same l from x (omega (arith, long))
 
   -- a part that does not meet the range is as it was
   pub masked-other : (p m : ℕ) → (p + m ≤ from) ⊎ (from + n ≤ p) → part (masked l from n k) p m ≡ part l p m
-  unfolding masked
   masked-other p m w =
-      part-other l from (xorWith (part l from n) k) (omega (arith, long)) p m (⊎-elim (λ h. inl h) (λ h. inr (omega (arith, long))) w)
+      ap (λ (z : List ℕ). part z p m) whole
+      ∙ part-other l from x (omega (arith, long)) p m (⊎-elim (λ h. inl h) (λ h. inr (omega (arith, long))) w)
 
-  -- masking twice with one stream restores
-  pub masked-twice : masked (masked l from n k) from n k ≡ l
-  unfolding masked
-  masked-twice =
-      let x = xorWith (part l from n) k in
-      let fx : from + length x ≤ length l = omega (arith, long) in
-      let again : xorWith (part (splice l from x) from n) k ≡ part l from n = ap (λ (z : List ℕ). xorWith z k) masked-part ∙ xor-twice (part l from n) k in
-      ap (splice (splice l from x) from) again
-      ∙ splice-over l from x (part l from n) fx (length-part l from n fits ∙ sym long)
-      ∙ splice-part l from n fits
+-- masking twice with one stream restores
+pub masked-twice : (l k : List ℕ) (from n : ℕ) → from + n ≤ length l → masked (masked l from n k) from n k ≡ l
+masked-twice l k from n fits =
+    let v = xorWith (part l from n) k in
+    let m = masked l from n k in
+    let lv : length v ≡ n = length-xor (part l from n) k ∙ length-part l from n fits in
+    let again : xorWith (part m from n) k ≡ part l from n = ap (λ (z : List ℕ). xorWith z k) (masked-part l k from n fits) ∙ xor-twice (part l from n) k in
+    masked-splice m k from n (omega (arith, length-masked l k from n fits))
+    ∙ ap (splice m from) again
+    ∙ ap (λ (z : List ℕ). splice z from (part l from n)) (masked-splice l k from n fits)
+    ∙ splice-over l from v (part l from n) (omega arith) (length-part l from n fits ∙ sym lv)
+    ∙ splice-part l from n fits

@@ -1,7 +1,9 @@
 use borrow.Author.Needs.{needs}
 use native.Mathlib.Omega.{arith}
 use lib.Seq.{take-length}
-use lib.ListN.{length, take}
+use lib.Dec.{eqb}
+use lib.ListN.{length, take, getD}
+use mathlib.Core.Bool.{Bool, _&&_}
 use mathlib.Core.Path.{_≡_, refl, sym, ap, _∙_}
 use Prim.Native.Nat.{ℕ, _≤_, _<_, _-_, _+_}
 use Rattle.wire.specs.Parts.{same}
@@ -39,7 +41,12 @@ loop-again c =
     let at-loop = c .before .before .before in
     let a = at-loop .before .before .args in
     let i = at-loop .loop .i in
-    (search needs, search needs, refl, rw (at-loop .loop .inv .3) (same-more (a .a .now) (a .b .now) i (omega arith) (omega arith)))
+    let more : Bool = eqb (getD (a .a .now) i 0) (getD (a .b .now) i 0) in (
+      search needs,
+      search needs,
+      refl,
+      ap (λ (ok : Bool). ok && more) (at-loop .loop .inv .3) ∙ same-more (a .a .now) (a .b .now) i (omega arith) (omega arith),
+    )
 
 returns-2 : tie.Need-returns-2 Inv-loop μ-loop
 returns-2 c =
