@@ -3,12 +3,13 @@ use mathlib.Core.Path.{_≡_, refl, sym, ap, ap₂, _∙_}
 use mathlib.Core.List.{List, [], _∷_, _++_, append-assoc}
 use mathlib.Core.Logic.{_⊎_, inl, inr, ⊎-elim}
 use Prim.Native.Nat.{ℕ, zero, suc, _+_, _-_, _<_, _≤_}
+use native.Mathlib.Nat.{add-zero}
 use native.Mathlib.Omega.{arith}
 use lib.Bits.{bitXor}
-use lib.ListN.{length, getD, set, take, drop}
+use lib.ListN.{length, getD, set, take, drop, take-append-drop}
 use borrow.Rule.Slice.PartMut.{putMid, midOf}
 use Rattle.wire.specs.Parts.{part, splice}
-use Rattle.wire.proofs.Parts.{length-part, length-splice, part-same, part-other, splice-over, splice-part}
+use Rattle.wire.proofs.Parts.{length-part, length-splice, part-same, part-other, part-part, part-inside, drop-after, splice-over, splice-part, splice-swap}
 use Rattle.wire.proofs.Lent.{lent-part}
 use Rattle.keystream.specs.Mask.{xorWith, masked}
 use Rattle.keystream.proofs.Bits.{bitXor-twice}
@@ -112,3 +113,49 @@ masked-twice l k from n fits =
     ∙ ap (λ (z : List ℕ). splice z from (part l from n)) (masked-splice l k from n fits)
     ∙ splice-over l from v (part l from n) (omega arith) (length-part l from n fits ∙ sym lv)
     ∙ splice-part l from n fits
+
+-- ---- masks of several ranges
+
+-- no bytes: nothing changes
+pub masked-none : (l k : List ℕ) (from : ℕ) → masked l from 0 k ≡ l
+unfolding masked xorWith part
+masked-none l k from = rw add-zero (take-append-drop from l)
+
+-- what follows the range is as it was
+pub masked-drop : (l k : List ℕ) (from n p : ℕ) → from + n ≤ length l → from + n ≤ p → drop p (masked l from n k) ≡ drop p l
+masked-drop l k from n p fits h =
+    let v = xorWith (part l from n) k in
+    let lv : length v ≡ n = length-xor (part l from n) k ∙ length-part l from n fits in
+    ap (drop p) (masked-splice l k from n fits) ∙ drop-after l from v (omega arith) p (omega arith)
+
+-- the first w bytes, masked as a list of their own
+pub masked-front : (l k : List ℕ) (w from n : ℕ) → w ≤ length l → from + n ≤ w → part (masked l from n k) 0 w ≡ masked (part l 0 w) from n k
+masked-front l k w from n h g =
+    let v = xorWith (part l from n) k in
+    let lv : length v ≡ n = length-xor (part l from n) k ∙ length-part l from n (omega arith) in
+    let lp : length (part l 0 w) ≡ w = length-part l 0 w (omega arith) in
+    let zf : from ≡ 0 + from = omega arith in
+    let same : part (part l 0 w) from n ≡ part l from n = part-part l 0 w from n g ∙ ap (λ (z : ℕ). part l z n) (sym zf) in
+    ap (λ (z : List ℕ). part z 0 w) (masked-splice l k from n (omega arith) ∙ ap (λ (z : ℕ). splice l z v) zf)
+    ∙ part-inside l 0 w from v (omega arith) (omega arith)
+    ∙ ap (λ (z : List ℕ). splice (part l 0 w) from (xorWith z k)) (sym same)
+    ∙ sym (masked-splice (part l 0 w) k from n (omega arith))
+
+-- two ranges side by side, in either order
+pub masked-swap : (l j k : List ℕ) (a m b n : ℕ) → a + m ≤ b → b + n ≤ length l → masked (masked l a m j) b n k ≡ masked (masked l b n k) a m j
+masked-swap l j k a m b n h g =
+    let v = xorWith (part l a m) j in
+    let w = xorWith (part l b n) k in
+    let lv : length v ≡ m = length-xor (part l a m) j ∙ length-part l a m (omega arith) in
+    let lw : length w ≡ n = length-xor (part l b n) k ∙ length-part l b n g in
+    let one : masked (masked l a m j) b n k ≡ splice (splice l a v) b w =
+    masked-splice (masked l a m j) k b n (omega (arith, length-masked l j a m (omega arith)))
+    ∙ ap (λ (z : List ℕ). splice (masked l a m j) b (xorWith z k)) (masked-other l j a m (omega arith) b n (inr h))
+    ∙ ap (λ (z : List ℕ). splice z b w) (masked-splice l j a m (omega arith))
+    in
+    let other : masked (masked l b n k) a m j ≡ splice (splice l b w) a v =
+    masked-splice (masked l b n k) j a m (omega (arith, length-masked l k b n g))
+    ∙ ap (λ (z : List ℕ). splice (masked l b n k) a (xorWith z j)) (masked-other l k b n g a m (inl h))
+    ∙ ap (λ (z : List ℕ). splice z a v) (masked-splice l k b n g)
+    in
+    one ∙ splice-swap l a b v w (omega arith) (omega arith) ∙ sym other

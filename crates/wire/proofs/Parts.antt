@@ -205,6 +205,47 @@ module _ {A : Type 0} where
       (ap (take o) (append-assoc (take o l) v (drop (o + length v) l)) ∙ take-at (take o l) (v ++ drop (o + length v) l) o lt)
       ∙ ap (λ (z : List A). take o l ++ w ++ z) (drop-after l o v h (o + length w) (omega arith))
 
+  -- a splice within the first of two lists
+  pub splice-left : (a b : List A) (o : ℕ) (v : List A) → o + length v ≤ length a → splice (a ++ b) o v ≡ splice a o v ++ b
+  unfolding splice
+  splice-left a b o v h =
+      ap (λ (z : List A). z ++ v ++ drop (o + length v) (a ++ b)) (take-append-le o a b (omega arith))
+      ∙ ap (λ (z : List A). take o a ++ v ++ z) (drop-append-le (o + length v) a b h)
+      ∙ sym (append-assoc (take o a ++ v) (drop (o + length v) a) b)
+
+  -- splices side by side, in either order
+  pub splice-swap : (l : List A) (o p : ℕ) (v w : List A) → o + length v ≤ p → p + length w ≤ length l → splice (splice l o v) p w ≡ splice (splice l p w) o v
+  unfolding splice
+  splice-swap l o p v w h g =
+      let a = take p l in
+      let la : length a ≡ p = length-take-le p l (omega arith) in
+      let d = drop (p + length w) l in
+      let first : splice l o v ≡ splice a o v ++ drop p l = ap (λ (z : List A). splice z o v) (sym (take-append-drop p l)) ∙ splice-left a (drop p l) o v (omega arith) in
+      let ls : length (splice a o v) ≡ p = length-splice a o v (omega arith) ∙ la in
+      let front : take p (splice l o v) ≡ splice a o v = ap (take p) first ∙ take-at (splice a o v) (drop p l) p ls in
+      let lhs : splice (splice l o v) p w ≡ splice a o v ++ w ++ d = put w (splice l o v) p front ∙ ap (λ (z : List A). splice a o v ++ w ++ z) (drop-after l o v (omega arith) (p + length w) (omega arith)) in
+      let rhs : splice (splice l p w) o v ≡ splice a o v ++ w ++ d =
+      ap (λ (z : List A). splice z o v) (whole w)
+      ∙ splice-left (a ++ w) d o v (omega (arith, length-append a w))
+      ∙ ap (λ (z : List A). z ++ d) (splice-left a w o v (omega arith))
+      in
+      lhs ∙ sym rhs
+    where
+      put : (w x : List A) (p : ℕ) {f : List A} → take p x ≡ f → splice x p w ≡ f ++ w ++ drop (p + length w) x
+      put w x p e = ap (λ (z : List A). z ++ w ++ drop (p + length w) x) e
+
+      whole : (w : List A) → splice l p w ≡ take p l ++ w ++ drop (p + length w) l
+      whole w = refl
+
+  -- the first w of another list that goes on in the same way
+  pub splice-front : (l m : List A) (w : ℕ) → w ≤ length m → drop w l ≡ drop w m → splice l 0 (part m 0 w) ≡ m
+  unfolding splice part
+  splice-front l m w h e =
+      let lw : 0 + length (take w m) ≡ w = omega (arith, length-take-le w m h) in
+      ap (λ (k : ℕ). take w m ++ drop k l) lw
+      ∙ ap (λ (z : List A). take w m ++ z) e
+      ∙ take-append-drop w m
+
   -- a run of stores at o, o + 1, o + 2 .. is a splice
   abbrev pub stores : List A → ℕ → ℕ → List A → List A
   stores l o k [] = l

@@ -1,0 +1,5 @@
+-- Fronts: laws of the three masks. Refusals: what follows from no refusal. Plain: the plain header put. Calls: what the calls answer.
+pub mod Fronts
+pub mod Refusals
+pub mod Plain
+pub mod Calls

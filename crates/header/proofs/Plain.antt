@@ -1,0 +1,52 @@
+-- Laws of the plain header: how it is put, piece after piece. Assumes nothing.
+use mathlib.Core.Path.{_≡_, refl, sym, ap, ap₂, _∙_}
+use mathlib.Core.Bool.{true, false, cond}
+use mathlib.Core.List.{List, [], _∷_, _++_}
+use Prim.Native.Nat.{ℕ, _+_, _≤_}
+use native.Mathlib.Omega.{arith}
+use lib.ListN.{length, length-append}
+use Rattle.wire.specs.Parts.{splice}
+use Rattle.wire.specs.Numbers.{littleBytes, bigBytes}
+use Rattle.wire.proofs.Parts.{splice-then}
+use Rattle.wire.proofs.Numbers.{length-little, length-big}
+use Rattle.header.specs.declared.Fields.{Fields}
+use Rattle.header.specs.Kinds.{isShort}
+use Rattle.header.specs.Writing.{byte13, byte14, frontBytes, idBytes, headBytes, plain}
+
+pub length-frontBytes : (f : Fields) → length (frontBytes f) ≡ 16
+unfolding frontBytes littleBytes bigBytes
+length-frontBytes f = refl
+
+pub length-idBytes : (f : Fields) → length (idBytes f) ≡ 16
+unfolding idBytes littleBytes
+length-idBytes f = refl
+
+-- the first 16 bytes, from what each put left
+pub front-put : (f : Fields) (p : List ℕ) {m1 m2 m3 : List ℕ} {b13 b14 : ℕ} → 16 ≤ length p
+    → m1 ≡ splice p 0 (littleBytes 8 (f .destination)) → m2 ≡ splice m1 8 (bigBytes 4 (f .number)) → b13 ≡ byte13 f → b14 ≡ byte14 f
+    → m3 ≡ splice m2 12 (f .kind ∷ b13 ∷ b14 ∷ 0 ∷ []) → m3 ≡ splice p 0 (frontBytes f)
+unfolding frontBytes littleBytes bigBytes
+front-put f p {m1} {m2} {m3} h e1 e2 e13 e14 e3 =
+    let d = littleBytes 8 (f .destination) in
+    let n = bigBytes 4 (f .number) in
+    let e12 : m2 ≡ splice p 0 (d ++ n) = splice-then p 0 d n (omega arith) e1 e2 in
+    splice-then p 0 (d ++ n) (f .kind ∷ byte13 f ∷ byte14 f ∷ 0 ∷ []) (omega arith) e12
+    (e3 ∙ ap₂ (λ (x y : ℕ). splice m2 12 (f .kind ∷ x ∷ y ∷ 0 ∷ [])) e13 e14)
+
+-- the next 16
+pub ids-put : (f : Fields) (p : List ℕ) {m1 m2 : List ℕ} → 32 ≤ length p
+    → m1 ≡ splice p 16 (littleBytes 8 (f .source)) → m2 ≡ splice m1 24 (littleBytes 8 (f .token)) → m2 ≡ splice p 16 (idBytes f)
+unfolding idBytes littleBytes
+ids-put f p h e1 e2 = splice-then p 16 (littleBytes 8 (f .source)) (littleBytes 8 (f .token)) (omega arith) e1 e2
+
+pub plain-short : (f : Fields) (p : List ℕ) {m : List ℕ} → isShort (f .kind) ≡ true → m ≡ splice p 0 (frontBytes f) → m ≡ plain f p
+unfolding plain headBytes
+plain-short f p e em = rw e em
+
+pub plain-long : (f : Fields) (p : List ℕ) {m1 m2 : List ℕ} → isShort (f .kind) ≡ false → 32 ≤ length p
+    → m1 ≡ splice p 0 (frontBytes f) → m2 ≡ splice m1 16 (idBytes f) → m2 ≡ plain f p
+unfolding plain headBytes
+plain-long f p {m1} e h e1 e2 =
+    let at : 16 ≡ 0 + length (frontBytes f) = omega (arith, length-frontBytes f) in
+    let fits : 0 + length (frontBytes f) + length (idBytes f) ≤ length p = omega (arith, length-frontBytes f, length-idBytes f) in
+    rw e (splice-then p 0 (frontBytes f) (idBytes f) fits e1 (e2 ∙ ap (λ (n : ℕ). splice m1 n (idBytes f)) at))

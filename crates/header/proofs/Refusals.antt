@@ -1,0 +1,102 @@
+-- What follows where a header is not refused. Assumes nothing.
+use mathlib.Core.Path.{_≡_, refl, sym, ap, ap₂, _∙_}
+use mathlib.Core.Bool.{Bool, true, false, cond, _&&_, _||_, not}
+use mathlib.Core.List.{List}
+use Prim.Native.Nat.{ℕ, _+_, _≤_, _<_}
+use native.Mathlib.Omega.{arith}
+use lib.Dec.{eqb, ltb}
+use lib.ListN.{length, getD}
+use borrow.Author.Tests.{ltb-false, not-false}
+use Rattle.wire.specs.Parts.{part}
+use Rattle.wire.specs.Numbers.{big, bigAt}
+use Rattle.wire.proofs.Parts.{getD-part, part-part}
+use Rattle.header.specs.declared.Fields.{Fields}
+use Rattle.header.specs.Kinds.{isKeyed, isShort, isListed, isVersion, longOf, needOf}
+use Rattle.header.specs.Unmasking.{typeOf}
+use Rattle.header.specs.Reading.{refusalOf}
+use Rattle.header.specs.Writing.{writeNumber}
+
+-- the first 16 bytes are enough to judge by
+pub refusal-front : (q : List ℕ) (n : ℕ) → refusalOf (part q 0 16) n ≡ refusalOf q n
+unfolding refusalOf bigAt
+refusal-front q n =
+    rw (getD-part q 0 16 12 0 (omega arith), getD-part q 0 16 13 0 (omega arith), part-part q 0 16 8 4 (omega arith))
+
+-- what each test of reading gave, where there is no refusal
+pub record Taken (q : List ℕ) (n : ℕ) : Type 0 where
+  pub listed : isListed (typeOf q) ≡ true
+  pub versed : (not (isShort (typeOf q)) && not (isVersion (getD q 13 0))) ≡ false
+  pub keyed : (isKeyed (typeOf q) && ltb n 64) ≡ false
+  pub numbered : (eqb (typeOf q) 2 && not (eqb (bigAt 4 q 8) 0)) ≡ false
+
+pub read-taken : (q : List ℕ) (n : ℕ) → refusalOf q n ≡ 0 → Taken q n
+unfolding refusalOf
+read-taken q n e =
+    go (not (isListed (typeOf q))) (not (isShort (typeOf q)) && not (isVersion (getD q 13 0))) (isKeyed (typeOf q) && ltb n 64)
+    (eqb (typeOf q) 2 && not (eqb (bigAt 4 q 8) 0)) refl refl refl refl e
+  where
+    go : (a b d g : Bool) → not (isListed (typeOf q)) ≡ a → (not (isShort (typeOf q)) && not (isVersion (getD q 13 0))) ≡ b → (isKeyed (typeOf q) && ltb n 64) ≡ d
+        → (eqb (typeOf q) 2 && not (eqb (bigAt 4 q 8) 0)) ≡ g → _≡_ {A = ℕ} (cond a 21 (cond b 22 (cond d 23 (cond g 24 0)))) 0 → Taken q n
+    go true b d g ea eb ed eg z = absurd (omega arith)
+    go false true d g ea eb ed eg z = absurd (omega arith)
+    go false false true g ea eb ed eg z = absurd (omega arith)
+    go false false false true ea eb ed eg z = absurd (omega arith)
+    go false false false false ea eb ed eg z = record { listed = not-false (isListed (typeOf q)) ea; versed = eb; keyed = ed; numbered = eg }
+
+-- not refused, a packet has room for what is to be unmasked
+pub read-room : (q : List ℕ) (n : ℕ) → 40 ≤ n → refusalOf q n ≡ 0 → 16 + longOf (typeOf q) ≤ n
+unfolding longOf
+read-room q n h e = by (isKeyed (typeOf q)) (isShort (typeOf q)) (read-taken q n e .keyed)
+  where
+    by : (k s : Bool) → (k && ltb n 64) ≡ false → 16 + cond k 48 (cond s 0 16) ≤ n
+    by true s f = omega (arith, ltb-false n 64 f)
+    by false true f = omega arith
+    by false false f = omega arith
+
+-- what each test of writing gave, where there is no refusal
+pub record Given (f : Fields) (n : ℕ) : Type 0 where
+  pub listed : isListed (f .kind) ≡ true
+  pub versed : (not (isShort (f .kind)) && not (isVersion (f .version))) ≡ false
+  pub numbered : (eqb (f .kind) 2 && not (eqb (f .number) 0)) ≡ false
+  pub nibbles : (eqb (f .kind) 2 && (ltb 15 (f .fragment) || ltb 15 (f .count))) ≡ false
+  pub room : needOf (f .kind) ≤ n
+
+pub write-given : (f : Fields) (n : ℕ) → writeNumber f n ≡ 0 → Given f n
+unfolding writeNumber
+write-given f n e =
+    go (not (isListed (f .kind))) (not (isShort (f .kind)) && not (isVersion (f .version))) (eqb (f .kind) 2 && not (eqb (f .number) 0))
+    (eqb (f .kind) 2 && (ltb 15 (f .fragment) || ltb 15 (f .count))) (ltb n (needOf (f .kind))) refl refl refl refl refl e
+  where
+    go : (a b d g x : Bool) → not (isListed (f .kind)) ≡ a → (not (isShort (f .kind)) && not (isVersion (f .version))) ≡ b → (eqb (f .kind) 2 && not (eqb (f .number) 0)) ≡ d
+        → (eqb (f .kind) 2 && (ltb 15 (f .fragment) || ltb 15 (f .count))) ≡ g → ltb n (needOf (f .kind)) ≡ x
+        → _≡_ {A = ℕ} (cond a 21 (cond b 22 (cond d 24 (cond g 25 (cond x 20 0))))) 0 → Given f n
+    go true b d g x ea eb ed eg ex z = absurd (omega arith)
+    go false true d g x ea eb ed eg ex z = absurd (omega arith)
+    go false false true g x ea eb ed eg ex z = absurd (omega arith)
+    go false false false true x ea eb ed eg ex z = absurd (omega arith)
+    go false false false false true ea eb ed eg ex z = absurd (omega arith)
+    go false false false false false ea eb ed eg ex z =
+        record { listed = not-false (isListed (f .kind)) ea; versed = eb; numbered = ed; nibbles = eg; room = ltb-false n (needOf (f .kind)) ex }
+
+pub write-room : (f : Fields) (n : ℕ) → writeNumber f n ≡ 0 → needOf (f .kind) ≤ n
+write-room f n e = write-given f n e .room
+
+-- what writing needs is enough for what is masked and for both nonces
+pub need-enough : (t : ℕ) → (40 ≤ needOf t) × (16 + longOf t + 24 ≤ needOf t)
+unfolding needOf longOf
+need-enough t = by (isKeyed t) (isShort t)
+  where
+    by : (k s : Bool) → (40 ≤ cond k 88 (cond s 40 56)) × (16 + cond k 48 (cond s 0 16) + 24 ≤ cond k 88 (cond s 40 56))
+    by true s = (omega arith, omega arith)
+    by false true = (omega arith, omega arith)
+    by false false = (omega arith, omega arith)
+
+-- no more than 48 bytes are masked from 16 on
+pub long-le : (t : ℕ) → longOf t ≤ 48
+unfolding longOf
+long-le t = by (isKeyed t) (isShort t)
+  where
+    by : (k s : Bool) → cond k 48 (cond s 0 16) ≤ 48
+    by true s = omega arith
+    by false true = omega arith
+    by false false = omega arith

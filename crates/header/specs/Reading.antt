@@ -1,0 +1,64 @@
+-- What reading a packet answers and leaves.
+use mathlib.Core.Bool.{Bool, cond, _&&_, not}
+use mathlib.Core.List.{List}
+use Prim.Native.Nat.{ℕ, _/_, _%_}
+use lib.Dec.{eqb, ltb}
+use lib.ListN.{length, getD}
+use Rattle.wire.specs.Numbers.{littleAt, bigAt}
+use Rattle.header.specs.declared.Long.{Long}
+use Rattle.header.specs.declared.HeaderKind.{HeaderKind}
+use Rattle.header.specs.declared.HeaderKind.the-variants.{SessionRequest, SessionCreated, SessionConfirmed, Data, PeerTest, Retry, TokenRequest, HolePunch}
+use Rattle.header.specs.declared.Answer.{Answer}
+use Rattle.header.specs.declared.Answer.the-variants.{Header, Refused}
+use Rattle.header.specs.Kinds.{isKeyed, isShort, isListed, isVersion}
+use Rattle.header.specs.Unmasking.{front, typeOf, unmasked}
+
+-- the refusal of a packet of n bytes whose first 16 are unmasked in q; 0 is none
+unfoldable pub refusalOf : List ℕ → ℕ → ℕ
+refusalOf q n =
+    cond (not (isListed (typeOf q))) 21
+    (cond (not (isShort (typeOf q)) && not (isVersion (getD q 13 0))) 22
+    (cond (isKeyed (typeOf q) && ltb n 64) 23
+    (cond (eqb (typeOf q) 2 && not (eqb (bigAt 4 q 8) 0)) 24
+    0)))
+
+-- the number that reading gives: 20 to 24 in this order, or 0
+unfoldable pub readNumber : List ℕ → List ℕ → List ℕ → ℕ
+readNumber k1 k2 p = cond (ltb (length p) 40) 20 (refusalOf (front k1 k2 p) (length p))
+
+-- the fields of an unmasked header of 32 or 64 bytes
+unfoldable pub longAt : List ℕ → Long
+longAt u =
+    record {
+      destination = littleAt 8 u 0;
+      number = bigAt 4 u 8;
+      version = getD u 13 0;
+      network = getD u 14 0;
+      source = littleAt 8 u 16;
+      token = littleAt 8 u 24;
+    }
+
+-- a header of 32 or 64 bytes by its type
+unfoldable pub longKind : ℕ → Long → HeaderKind
+longKind t l =
+    cond (eqb t 0) (SessionRequest l)
+    (cond (eqb t 1) (SessionCreated l)
+    (cond (eqb t 7) (PeerTest l)
+    (cond (eqb t 9) (Retry l)
+    (cond (eqb t 10) (TokenRequest l)
+    (HolePunch l)))))
+
+-- the fields of an unmasked header: SessionConfirmed has fragment and count in byte 13, Data its flag in bit 0 of it
+unfoldable pub kindOf : List ℕ → HeaderKind
+kindOf u =
+    cond (eqb (typeOf u) 2) (SessionConfirmed (littleAt 8 u 0) (bigAt 4 u 8) (getD u 13 0 / 16) (getD u 13 0 % 16))
+    (cond (eqb (typeOf u) 6) (Data (littleAt 8 u 0) (bigAt 4 u 8) (eqb (getD u 13 0 % 2) 1))
+    (longKind (typeOf u) (longAt u)))
+
+-- the answer: the refusal, or the fields of the type at hand
+unfoldable pub answerOf : List ℕ → List ℕ → List ℕ → Answer
+answerOf k1 k2 p = cond (eqb (readNumber k1 k2 p) 0) (Header (kindOf (unmasked k1 k2 p))) (Refused (readNumber k1 k2 p))
+
+-- the packet afterwards: unmasked, or as it came
+unfoldable pub leftBy : List ℕ → List ℕ → List ℕ → List ℕ
+leftBy k1 k2 p = cond (eqb (readNumber k1 k2 p) 0) (unmasked k1 k2 p) p

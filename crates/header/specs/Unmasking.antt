@@ -1,0 +1,35 @@
+-- How a header is masked: three ranges, each XORed with the start of a keystream. Unmasking is the same again.
+use mathlib.Core.List.{List}
+use Prim.Native.Nat.{ℕ, _-_}
+use lib.ListN.{length, getD, replicate}
+use Rattle.wire.specs.Parts.{part}
+use Rattle.keystream.specs.Chacha.{block}
+use Rattle.keystream.specs.Mask.{masked}
+use Rattle.header.specs.Kinds.{longOf}
+
+-- the keystream of a key and a nonce: its first block counter is 1
+unfoldable pub stream : List ℕ → List ℕ → List ℕ
+stream key nonce = block key 1 nonce
+
+-- the nonces: the last 24 bytes of a packet, 12 and 12
+unfoldable pub nonce1 : List ℕ → List ℕ
+nonce1 p = part p (length p - 24) 12
+
+unfoldable pub nonce2 : List ℕ → List ℕ
+nonce2 p = part p (length p - 12) 12
+
+-- bytes 0 to 7 under key 1 and 8 to 15 under key 2, with the nonces of the packet as it came
+unfoldable pub front : List ℕ → List ℕ → List ℕ → List ℕ
+front k1 k2 p = masked (masked p 0 8 (stream k1 (nonce1 p))) 8 8 (stream k2 (nonce2 p))
+
+-- the bytes from 16 on that a type has masked, under key 2 and a zero nonce
+unfoldable pub rest : List ℕ → ℕ → List ℕ → List ℕ
+rest k2 t p = masked p 16 (longOf t) (stream k2 (replicate 12 0))
+
+-- the type of an unmasked packet
+abbrev pub typeOf : List ℕ → ℕ
+typeOf q = getD q 12 0
+
+-- the whole packet unmasked
+unfoldable pub unmasked : List ℕ → List ℕ → List ℕ → List ℕ
+unmasked k1 k2 p = rest k2 (typeOf (front k1 k2 p)) (front k1 k2 p)
