@@ -1,5 +1,6 @@
--- Fronts: laws of the three masks. Refusals: what follows from no refusal. Plain: the plain header put. Calls: what the calls answer.
+-- Fronts: laws of the three masks. Refusals: what follows from no refusal. Plain: the plain header put. Calls: what the calls answer. RoundTrip: its two claims.
 pub mod Fronts
 pub mod Refusals
 pub mod Plain
 pub mod Calls
+pub mod RoundTrip

@@ -100,3 +100,7 @@ long-le t = by (isKeyed t) (isShort t)
     by true s = omega arith
     by false true = omega arith
     by false false = omega arith
+
+pub need-keyed : (t : ℕ) → isKeyed t ≡ true → needOf t ≡ 88
+unfolding needOf
+need-keyed t e = rw e

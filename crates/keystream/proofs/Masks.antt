@@ -5,14 +5,19 @@ use mathlib.Core.Logic.{_⊎_, inl, inr, ⊎-elim}
 use Prim.Native.Nat.{ℕ, zero, suc, _+_, _-_, _<_, _≤_}
 use native.Mathlib.Nat.{add-zero}
 use native.Mathlib.Omega.{arith}
-use lib.Bits.{bitXor}
+use lib.Bits.{bitXor, xor-lt}
 use lib.ListN.{length, getD, set, take, drop, take-append-drop}
+use lib.Seq.{getD-drop}
 use borrow.Rule.Slice.PartMut.{putMid, midOf}
 use Rattle.wire.specs.Parts.{part, splice}
+use Rattle.wire.specs.Numbers.{Bytes}
 use Rattle.wire.proofs.Parts.{length-part, length-splice, part-same, part-other, part-part, part-inside, drop-after, splice-over, splice-part, splice-swap}
+use Rattle.wire.proofs.Numbers.{bytes-append, bytes-part}
 use Rattle.wire.proofs.Lent.{lent-part}
+use Rattle.keystream.specs.Chacha.{block, addWords, rounds, initial}
 use Rattle.keystream.specs.Mask.{xorWith, masked}
 use Rattle.keystream.proofs.Bits.{bitXor-twice}
+use Rattle.keystream.proofs.State.{bytes-serialise}
 
 -- ---- XOR with a stream
 
@@ -159,3 +164,23 @@ masked-swap l j k a m b n h g =
     ∙ ap (λ (z : List ℕ). splice z a v) (masked-splice l k b n g)
     in
     one ∙ splice-swap l a b v w (omega arith) (omega arith) ∙ sym other
+
+-- ---- bytes stay bytes
+
+pub bytes-xor : (l k : List ℕ) → Bytes l → Bytes k → Bytes (xorWith l k)
+unfolding xorWith
+bytes-xor [] k hl hk i = hl i
+bytes-xor (a ∷ l) [] hl hk i = hl i
+bytes-xor (a ∷ l) (b ∷ k) hl hk zero = xor-lt 8 a b (hl zero) (hk zero)
+bytes-xor (a ∷ l) (b ∷ k) hl hk (suc i) = bytes-xor l k (λ j. hl (suc j)) (λ j. hk (suc j)) i
+
+pub bytes-masked : (l k : List ℕ) (from n : ℕ) → Bytes l → Bytes k → Bytes (masked l from n k)
+unfolding masked part
+bytes-masked l k from n hl hk =
+    bytes-append (take from l) (xorWith (part l from n) k ++ drop (from + n) l) (bytes-part l 0 from hl)
+    (bytes-append (xorWith (part l from n) k) (drop (from + n) l) (bytes-xor (part l from n) k (bytes-part l from n hl) hk)
+    (λ i. rw getD-drop (hl (from + n + i))))
+
+pub bytes-block : (key : List ℕ) (counter : ℕ) (nonce : List ℕ) → Bytes (block key counter nonce)
+unfolding block
+bytes-block key counter nonce = bytes-serialise (addWords (rounds 10 (initial key counter nonce)) (initial key counter nonce))

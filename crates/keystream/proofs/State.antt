@@ -7,9 +7,9 @@ use native.Mathlib.Numerals.{add-one}
 use lib.ListN.{length, getD, take, length-append}
 use lib.Seq.{take-all, take-suc, length-take-le}
 use Rattle.wire.specs.Parts.{splice}
-use Rattle.wire.specs.Numbers.{littleAt, littleBytes}
+use Rattle.wire.specs.Numbers.{Bytes, littleAt, littleBytes}
 use Rattle.wire.proofs.Parts.{splice-join, splice-all}
-use Rattle.wire.proofs.Numbers.{length-little}
+use Rattle.wire.proofs.Numbers.{length-little, bytes-append, bytes-little}
 use Rattle.keystream.specs.declared.rounds.Quad.{Quad}
 use Rattle.keystream.specs.Chacha.{add32, quarter, quadAt, putQuad, qround, columns, diagonals, doubleRound, words, initial, addWords, serialise}
 
@@ -69,6 +69,11 @@ length-serialise [] = refl
 length-serialise (w ∷ s) =
     let e : length (littleBytes 4 w ++ serialise s) ≡ length (littleBytes 4 w) + length (serialise s) = length-append (littleBytes 4 w) (serialise s) in
     omega (arith, length-little 4 w, length-serialise s)
+
+pub bytes-serialise : (s : List ℕ) → Bytes (serialise s)
+unfolding serialise
+bytes-serialise [] i = omega arith
+bytes-serialise (w ∷ s) i = bytes-append (littleBytes 4 w) (serialise s) (bytes-little 4 w) (bytes-serialise s) i
 
 serialise-append : (s t : List ℕ) → serialise (s ++ t) ≡ serialise s ++ serialise t
 unfolding serialise

@@ -5,20 +5,31 @@ use Prim.Native.Nat.{ℕ, zero, suc, _+_, _-_, _*_, _/_, _%_, _^_, _≤_, _<_}
 use native.Mathlib.Nat.{pow-suc, add-mul, mul-assoc, mul-one, div-lt-iff-lt-mul, zero-add, suc-add, add-comm, one-le-pow, div-one, div-div-eq-div-mul, pow-succ'}
 use native.Mathlib.Omega.{arith}
 use lib.Arith.{mod-mul, digits-lt}
-use lib.ListN.{length, getD, length-append, length-reverse}
+use lib.ListN.{length, getD, take, drop, length-append, length-reverse}
+use lib.Seq.{getD-drop}
 use Rattle.wire.specs.Parts.{part}
-use Rattle.wire.specs.Numbers.{little, big, littleBytes, bigBytes, littleAt, bigAt}
+use Rattle.wire.specs.Numbers.{Bytes, little, big, littleBytes, bigBytes, littleAt, bigAt}
 use Rattle.wire.proofs.Parts.{reads, part-add, part-reads, length-part}
 
--- ---- bytes: each element is below 256
-
-abbrev pub Bytes : List ℕ → Type 0
-Bytes l = (i : ℕ) → getD l i 0 < 256
+-- ---- lists of bytes
 
 pub bytes-append : (a b : List ℕ) → Bytes a → Bytes b → Bytes (a ++ b)
 bytes-append [] b ha hb i = hb i
 bytes-append (x ∷ a) b ha hb zero = ha zero
 bytes-append (x ∷ a) b ha hb (suc i) = bytes-append a b (λ j. ha (suc j)) hb i
+
+pub bytes-part : (l : List ℕ) (o n : ℕ) → Bytes l → Bytes (part l o n)
+unfolding part
+bytes-part l o n h = taken n (drop o l) (dropped o l h)
+  where
+    taken : (n : ℕ) (l : List ℕ) → Bytes l → Bytes (take n l)
+    taken zero l h i = omega arith
+    taken (suc n) [] h i = omega arith
+    taken (suc n) (x ∷ l) h zero = h zero
+    taken (suc n) (x ∷ l) h (suc i) = taken n l (λ j. h (suc j)) i
+
+    dropped : (o : ℕ) (l : List ℕ) → Bytes l → Bytes (drop o l)
+    dropped o l h i = rw getD-drop (h (o + i))
 
 bytes-one : {x : ℕ} → x < 256 → Bytes (x ∷ [])
 bytes-one h zero = h
@@ -182,3 +193,15 @@ little-eight x = sym (little-add 4 4 x ∙ ap (λ (l : List ℕ). l ++ littleByt
 
 pub big-eight : (x : ℕ) → bigBytes 4 (x / 4294967296) ++ bigBytes 4 (x % 4294967296) ≡ bigBytes 8 x
 big-eight x = sym (big-add 4 4 x ∙ ap (λ (l : List ℕ). bigBytes 4 (x / 4294967296) ++ l) (sym (big-mod 4 x)))
+
+-- ---- a number read at a place, put in as many bytes: what stood there
+
+pub littleAt-again : (n : ℕ) (l : List ℕ) (o : ℕ) → o + n ≤ length l → Bytes l → littleBytes n (littleAt n l o) ≡ part l o n
+unfolding littleAt
+littleAt-again n l o h b =
+    ap (λ (k : ℕ). littleBytes k (little (part l o n))) (sym (length-part l o n h)) ∙ little-again (part l o n) (bytes-part l o n b)
+
+pub bigAt-again : (n : ℕ) (l : List ℕ) (o : ℕ) → o + n ≤ length l → Bytes l → bigBytes n (bigAt n l o) ≡ part l o n
+unfolding bigAt
+bigAt-again n l o h b =
+    ap (λ (k : ℕ). bigBytes k (big (part l o n))) (sym (length-part l o n h)) ∙ big-again (part l o n) (bytes-part l o n b)

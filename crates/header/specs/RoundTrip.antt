@@ -1,0 +1,79 @@
+-- Reading what was written, and writing what was read.
+use mathlib.Core.Path.{_≡_}
+use mathlib.Core.Bool.{true, false, cond}
+use mathlib.Core.List.{List}
+use Prim.Native.Nat.{ℕ, _≤_, _<_, _^_}
+use lib.Dec.{eqb}
+use lib.ListN.{length, getD}
+use Rattle.wire.specs.Numbers.{Bytes}
+use Rattle.header.specs.declared.Long.{Long}
+use Rattle.header.specs.declared.Fields.{Fields}
+use Rattle.header.specs.declared.HeaderKind.{HeaderKind}
+use Rattle.header.specs.declared.HeaderKind.the-variants.{SessionRequest, SessionCreated, SessionConfirmed, Data, PeerTest, Retry, TokenRequest, HolePunch}
+use Rattle.header.specs.declared.Answer.the-variants.{Header}
+use Rattle.header.specs.Kinds.{isShort, needOf}
+use Rattle.header.specs.Unmasking.{typeOf, unmasked}
+use Rattle.header.specs.Reading.{readNumber, longKind, kindOf, answerOf, leftBy}
+use Rattle.header.specs.Writing.{writeNumber, plain, written}
+
+-- fields within their widths, as every call has them
+pub record Fits (f : Fields) : Type 0 where
+  pub destination : f .destination < 2 ^ 64
+  pub number : f .number < 2 ^ 32
+  pub source : f .source < 2 ^ 64
+  pub token : f .token < 2 ^ 64
+
+-- the header that fields stand for
+unfoldable pub shown : Fields → HeaderKind
+shown f =
+    cond (eqb (f .kind) 2) (SessionConfirmed (f .destination) (f .number) (f .fragment) (f .count))
+    (cond (eqb (f .kind) 6) (Data (f .destination) (f .number) (f .immediate))
+    (longKind (f .kind)
+    (record { destination = f .destination; number = f .number; version = f .version; network = f .network; source = f .source; token = f .token })))
+
+-- the fields of a header of 32 or 64 bytes, with its type; those that it does not have are 0
+abbrev pub ofLong : ℕ → Long → Fields
+ofLong t l =
+    record {
+      kind = t;
+      destination = l .destination;
+      number = l .number;
+      version = l .version;
+      network = l .network;
+      source = l .source;
+      token = l .token;
+      fragment = 0;
+      count = 0;
+      immediate = false;
+    }
+
+-- the fields of a header that was read
+unfoldable pub fieldsOf : HeaderKind → Fields
+fieldsOf (SessionRequest l) = ofLong 0 l
+fieldsOf (SessionCreated l) = ofLong 1 l
+fieldsOf (SessionConfirmed d n i k) =
+    record { kind = 2; destination = d; number = n; version = 0; network = 0; source = 0; token = 0; fragment = i; count = k; immediate = false }
+fieldsOf (Data d n a) =
+    record { kind = 6; destination = d; number = n; version = 0; network = 0; source = 0; token = 0; fragment = 0; count = 0; immediate = a }
+fieldsOf (PeerTest l) = ofLong 7 l
+fieldsOf (Retry l) = ofLong 9 l
+fieldsOf (TokenRequest l) = ofLong 10 l
+fieldsOf (HolePunch l) = ofLong 11 l
+
+-- the bits of an unmasked header that no field names are 0
+pub record NoOthers (u : List ℕ) : Type 0 where
+  pub last : getD u 15 0 ≡ 0
+  pub short : isShort (typeOf u) ≡ true → getD u 14 0 ≡ 0
+  pub flags : typeOf u ≡ 6 → getD u 13 0 < 2
+
+-- reading what was written gives the same fields and the plain packet
+abbrev pub WrittenIsRead : Type 0
+WrittenIsRead =
+    (k1 k2 : List ℕ) (f : Fields) (p : List ℕ) → Fits f → writeNumber f (length p) ≡ 0
+    → (answerOf k1 k2 (written k1 k2 f p) ≡ Header (shown f)) × (leftBy k1 k2 (written k1 k2 f p) ≡ plain f p)
+
+-- what reading took, written again over the unmasked packet, is the packet
+abbrev pub ReadIsWritten : Type 0
+ReadIsWritten =
+    (k1 k2 p : List ℕ) → Bytes p → readNumber k1 k2 p ≡ 0 → NoOthers (unmasked k1 k2 p) → needOf (typeOf (unmasked k1 k2 p)) ≤ length p
+    → (writeNumber (fieldsOf (kindOf (unmasked k1 k2 p))) (length p) ≡ 0) × (written k1 k2 (fieldsOf (kindOf (unmasked k1 k2 p))) (unmasked k1 k2 p) ≡ p)
