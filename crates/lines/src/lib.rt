@@ -1,6 +1,6 @@
 // The lists that the check programs replay: a case a line, its fields parted by one space, bytes as hex digits.
 ghost use mathlib.Core.Path.{_≡_};
-ghost use Prim.Native.Nat.{_≤_, _<_};
+ghost use Prim.Native.Nat.{_+_, _≤_, _<_};
 ghost use lib.ListN.{length};
 
 const SPACE: u8 = 32;
@@ -59,6 +59,40 @@ pub fn after_line(text: &[u8], at: usize) -> usize
     ensures { λ r. ⌜ (at < r) × (r ≤ length (now (text .entry))) ⌝ }
 {
     past(text, at, NEWLINE)
+}
+
+// The place after the last whole line.
+pub fn whole(text: &[u8]) -> usize
+    ensures { λ r. ⌜ r ≤ length (now (text .entry)) ⌝ }
+{
+    let mut n = text.len();
+    while 0 < n {
+        if text[n - 1] == NEWLINE {
+            return n;
+        }
+        n -= 1;
+    }
+    0
+}
+
+// The bytes from a place on, moved to the front.
+fn shift(buf: &mut [u8], from: usize, n: usize)
+    requires { ⌜ from + n ≤ length (now buf) ⌝ }
+{
+    for i in 0..n {
+        buf[i] = buf[from + i];
+    }
+}
+
+// What was not used of a buffer's first bytes moved to its front, and more read after it; how many bytes there are now.
+pub fn refill(fd: i32, buf: &mut [u8], used: usize, have: usize) -> usize
+    requires { ⌜ (used ≤ have) × (have ≤ length (now buf)) ⌝ }
+    ensures { λ r. ⌜ r ≤ length (now (buf .exit)) ⌝ }
+{
+    let left = have - used;
+    shift(buf, used, left);
+    let got = io::read_full(fd, &mut buf[left..]);
+    left + got
 }
 
 // The value of a hex digit; 16 where a byte is none.
