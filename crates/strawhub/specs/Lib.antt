@@ -1,0 +1,2 @@
+-- What the C calls answer, as numbers.
+pub mod Headers
