@@ -1,0 +1,32 @@
+use mathlib.Core.Path.{_≡_, refl, sym, ap, _∙_}
+use borrow.Author.Tests.{lt-ltb, le-ltb, eq-eqb, ne-eqb}
+use Rattle.blocks.specs.Extent.{address}
+use borrow.Author.Needs.{needs}
+use Rattle.blocks.proofs.extents.address.Statement.{statement}
+use Rattle.blocks.proofs.extents.address.Tie as tie
+
+returns : tie.Need-returns
+unfolding address
+returns c = simp (lt-ltb _ _ (c .if1 .taken))
+
+fits-in-requires : tie.Need-fits-in-requires
+fits-in-requires c κs = search needs
+
+returns-2 : tie.Need-returns-2
+unfolding address
+returns-2 c = c .fits-in .ensures ∙ sym (simp (le-ltb _ _ (c .before .before .if1 .left), eq-eqb _ _ (c .before .if2 .taken)))
+
+fits-in-requires-2 : tie.Need-fits-in-requires-2
+fits-in-requires-2 c κs = search needs
+
+returns-3 : tie.Need-returns-3
+unfolding address
+returns-3 c = c .fits-in2 .ensures ∙ sym (simp (le-ltb _ _ (c .before .before .before .if1 .left), ne-eqb _ _ (c .before .before .if2 .left), eq-eqb _ _ (c .before .if3 .taken)))
+
+returns-4 : tie.Need-returns-4
+unfolding address
+returns-4 c = simp (le-ltb _ _ (c .before .before .if1 .left), ne-eqb _ _ (c .before .if2 .left), ne-eqb _ _ (c .if3 .left))
+
+pub address-spec : {M : Type 1} → statement M
+address-spec =
+    tie.close (tie.spec returns fits-in-requires returns-2 fits-in-requires-2 returns-3 returns-4)

@@ -1,0 +1,48 @@
+use mathlib.Core.Path.{_≡_, refl, sym, ap, _∙_}
+use borrow.Author.Tests.{lt-ltb, le-ltb, le-leb, lt-leb, not-true, not-false}
+use Rattle.blocks.specs.Extent.{firstFragment}
+use borrow.Author.Needs.{needs}
+use Rattle.blocks.proofs.extents.first_fragment.Statement.{statement}
+use Rattle.blocks.proofs.extents.first_fragment.Tie as tie
+
+sub-left : tie.Need-sub-left
+sub-left c = search needs
+
+returns : tie.Need-returns
+unfolding firstFragment
+returns c = simp (lt-ltb _ _ (c .if1 .taken))
+
+shared-slice-read-is-listed : tie.Need-shared-slice-read-is-listed
+shared-slice-read-is-listed c = search needs
+
+is-listed-requires : tie.Need-is-listed-requires
+is-listed-requires c κs = search needs
+
+returns-2 : tie.Need-returns-2
+unfolding firstFragment
+returns-2 c = simp (le-ltb _ _ (c .before .before .before .if1 .left), sym (c .before .is-listed .ensures) ∙ not-true _ (c .if2 .taken))
+
+returns-3 : tie.Need-returns-3
+unfolding firstFragment
+returns-3 c = simp (le-ltb _ _ (c .before .before .before .before .if1 .left), sym (c .before .before .is-listed .ensures) ∙ not-false _ (c .before .if2 .left), le-leb _ _ (c .if3 .taken))
+
+returns-4 : tie.Need-returns-4
+unfolding firstFragment
+returns-4 c = simp (le-ltb _ _ (c .before .before .before .before .before .if1 .left), sym (c .before .before .before .is-listed .ensures) ∙ not-false _ (c .before .before .if2 .left), lt-leb _ _ (c .before .if3 .left), lt-ltb _ _ (c .if4 .taken))
+
+returns-5 : tie.Need-returns-5
+unfolding firstFragment
+returns-5 c = simp (le-ltb _ _ (c .before .before .before .before .before .if1 .left), sym (c .before .before .before .is-listed .ensures) ∙ not-false _ (c .before .before .if2 .left), lt-leb _ _ (c .before .if3 .left), le-ltb _ _ (c .if4 .left))
+
+pub first-fragment-spec : {M : Type 1} → statement M
+first-fragment-spec =
+    tie.close
+    (tie.spec
+    sub-left
+    returns
+    shared-slice-read-is-listed
+    is-listed-requires
+    returns-2
+    returns-3
+    returns-4
+    returns-5)

@@ -1,0 +1,29 @@
+use mathlib.Core.Path.{_≡_, refl, sym, ap, _∙_}
+use native.Mathlib.Omega.{arith}
+use Prim.Native.Nat.{_-_}
+use borrow.Author.Tests.{eq-eqb, ne-eqb}
+use Rattle.blocks.specs.Extent.{pairsIn}
+use borrow.Author.Needs.{needs}
+use Rattle.blocks.proofs.extents.pairs_in.Statement.{statement}
+use Rattle.blocks.proofs.extents.pairs_in.Tie as tie
+
+returns : tie.Need-returns
+unfolding pairsIn
+returns c = (let z : c .before .args .size - 5 ≡ 0 = omega arith in rw z, search needs)
+
+sub-if2 : tie.Need-sub-if2
+sub-if2 c = search needs
+
+sub-result : tie.Need-sub-result
+sub-result c = search needs
+
+returns-2 : tie.Need-returns-2
+unfolding pairsIn
+returns-2 c = (simp (c .if2 .taken), search needs)
+
+returns-3 : tie.Need-returns-3
+unfolding pairsIn
+returns-3 c = (simp (ne-eqb _ _ (c .if2 .left)), search needs)
+
+pub pairs-in-spec : {M : Type 1} → statement M
+pairs-in-spec = tie.close (tie.spec returns sub-if2 sub-result returns-2 returns-3)
