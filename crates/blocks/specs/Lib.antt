@@ -1,1 +1,3 @@
+-- What the contracts of `blocks` cite.
 pub mod Extent
+pub mod Reading

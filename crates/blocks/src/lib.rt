@@ -1,5 +1,6 @@
 // SSU2 blocks: their bodies as values, and reading, listing and writing them.
 pub mod extents;
+pub mod reading;
 
 // Bytes of the payload: where they start, and how many they are.
 pub struct Part {
