@@ -1,2 +1,3 @@
 -- The laws that the crates above cite.
 pub mod Ends
+pub mod Walk

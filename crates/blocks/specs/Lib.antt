@@ -1,3 +1,4 @@
 -- What the contracts of `blocks` cite.
 pub mod Extent
 pub mod Reading
+pub mod Listing

@@ -1,5 +1,6 @@
 // SSU2 blocks: their bodies as values, and reading, listing and writing them.
 pub mod extents;
+pub mod listing;
 pub mod reading;
 
 // Bytes of the payload: where they start, and how many they are.
@@ -112,4 +113,26 @@ pub enum Extent {
 pub enum Taken {
     Bytes { count: usize },
     Refused { number: u32 },
+}
+
+// One block of a listing: its place, its type and its size field as it stands.
+#[repr(C)]
+pub struct Entry {
+    pub place: usize,
+    pub kind: u8,
+    pub size: u16,
+}
+
+// A record, and the place after its block.
+pub struct Step {
+    pub entry: Entry,
+    pub next: usize,
+}
+
+// What came of a listing: 0 and the count of blocks, or the number of the refusal and its place.
+#[repr(C)]
+pub struct Answer {
+    pub number: u32,
+    pub place: usize,
+    pub count: usize,
 }
