@@ -2,3 +2,4 @@
 pub mod Extent
 pub mod Reading
 pub mod Listing
+pub mod Writing

@@ -2,6 +2,7 @@
 pub mod extents;
 pub mod listing;
 pub mod reading;
+pub mod writing;
 
 // Bytes of the payload: where they start, and how many they are.
 pub struct Part {
@@ -135,4 +136,10 @@ pub struct Answer {
     pub number: u32,
     pub place: usize,
     pub count: usize,
+}
+
+// What came of writing a block: its length, or the number of the refusal.
+pub enum Written {
+    Length { count: usize },
+    Refused { number: u32 },
 }
