@@ -2,3 +2,4 @@
 pub mod Ends
 pub mod Walk
 pub mod Puts
+pub mod WriteThenRead

@@ -3,3 +3,4 @@ pub mod Extent
 pub mod Reading
 pub mod Listing
 pub mod Writing
+pub mod Claims

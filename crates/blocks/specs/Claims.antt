@@ -1,0 +1,68 @@
+-- What is shown of reading, writing and listing together.
+use mathlib.Core.Path.{_≡_}
+use mathlib.Core.Bool.{cond}
+use mathlib.Core.List.{List, [], _∷_}
+use Prim.Native.Nat.{ℕ, _+_, _-_, _^_, _<_, _≤_}
+use lib.ListN.{length, getD}
+use Rattle.wire.specs.Parts.{part, splice}
+use Rattle.blocks.specs.declared.Part.{Part}
+use Rattle.blocks.specs.declared.Block.{Block}
+use Rattle.blocks.specs.declared.Block.the-variants as Body
+use Rattle.blocks.specs.declared.Read.{Read}
+use Rattle.blocks.specs.declared.Read.the-variants as Got
+use Rattle.blocks.specs.declared.Written.the-variants as Wrote
+use Rattle.blocks.specs.declared.Entry.{Entry}
+use Rattle.blocks.specs.Reading.{bytesAt, readAt}
+use Rattle.blocks.specs.Writing.{kindOf, fieldLength, bytesOf, sizeOf, writing, roomAfter}
+use Rattle.blocks.specs.Listing.{ok, no, entry, blocksOf}
+
+-- every number of a block fits its bytes, as it does in a value of the program
+abbrev pub Fitting : Block → Type 0
+Fitting (Body.DateTime t) = t < 256 ^ 4
+Fitting (Body.Options a b c d e f g h) = (e < 256 ^ 2) × (f < 256 ^ 2) × (g < 256 ^ 2) × (h < 256 ^ 2)
+Fitting (Body.RouterInfo f g p) = Unit
+Fitting (Body.I2np k i x p) = (i < 256 ^ 4) × (x < 256 ^ 4)
+Fitting (Body.FirstFragment k i x p) = (i < 256 ^ 4) × (x < 256 ^ 4)
+Fitting (Body.FollowOnFragment n l i p) = i < 256 ^ 4
+Fitting (Body.Termination n r) = n < 256 ^ 8
+Fitting (Body.Ack t n p) = t < 256 ^ 4
+Fitting (Body.Address o p) = o < 256 ^ 2
+Fitting Body.RelayTagRequest = Unit
+Fitting (Body.RelayTag t) = t < 256 ^ 4
+Fitting (Body.NewToken x t) = (x < 256 ^ 4) × (t < 256 ^ 8)
+Fitting (Body.PathChallenge p) = Unit
+Fitting (Body.PathResponse p) = Unit
+Fitting (Body.FirstPacketNumber n) = n < 256 ^ 4
+Fitting (Body.Congestion f) = Unit
+Fitting (Body.Padding p) = Unit
+Fitting (Body.Opaque k p) = Unit
+
+-- a block whose n bytes stand where the writer puts them
+abbrev pub placed : Block → ℕ → Block
+placed (Body.DateTime t) n = Body.DateTime t
+placed (Body.Options a b c d e f g h) n = Body.Options a b c d e f g h
+placed (Body.RouterInfo f g p) n = Body.RouterInfo f g (bytesAt 5 n)
+placed (Body.I2np k i x p) n = Body.I2np k i x (bytesAt 12 n)
+placed (Body.FirstFragment k i x p) n = Body.FirstFragment k i x (bytesAt 12 n)
+placed (Body.FollowOnFragment m l i p) n = Body.FollowOnFragment m l i (bytesAt 8 n)
+placed (Body.Termination m r) n = Body.Termination m r
+placed (Body.Ack t m p) n = Body.Ack t m (bytesAt 8 n)
+placed (Body.Address o p) n = Body.Address o (bytesAt 5 n)
+placed Body.RelayTagRequest n = Body.RelayTagRequest
+placed (Body.RelayTag t) n = Body.RelayTag t
+placed (Body.NewToken x t) n = Body.NewToken x t
+placed (Body.PathChallenge p) n = Body.PathChallenge (bytesAt 3 n)
+placed (Body.PathResponse p) n = Body.PathResponse (bytesAt 3 n)
+placed (Body.FirstPacketNumber m) n = Body.FirstPacketNumber m
+placed (Body.Congestion f) n = Body.Congestion f
+placed (Body.Padding p) n = Body.Padding (bytesAt 3 n)
+placed (Body.Opaque k p) n = Body.Opaque k (bytesAt 3 n)
+
+-- a block that the writer takes, read where it was written, is that block, with the size that was put; its bytes are those lent
+abbrev pub WriteThenRead : Type 0
+WriteThenRead =
+    (b : Block) (body room : List ℕ) (n : ℕ)
+    → Fitting b
+    → writing b body (length room) ≡ Wrote.Length n
+    → (readAt (roomAfter b body room) 0 ≡ Got.Block (placed b (length body)) (sizeOf b body) n)
+    × (part (roomAfter b body room) (3 + fieldLength b) (length (bytesOf b body)) ≡ bytesOf b body)
