@@ -3,3 +3,4 @@ pub mod Ends
 pub mod Walk
 pub mod Puts
 pub mod WriteThenRead
+pub mod ReadThenWrite

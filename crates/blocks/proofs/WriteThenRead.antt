@@ -86,7 +86,7 @@ not-false true e = refl
 not-false false e = sym e
 
 -- a type that has no body of its own is none of those that have one
-apart : (k j : ℕ) → named k ≡ false → named j ≡ true → eqb k j ≡ false
+pub apart : (k j : ℕ) → named k ≡ false → named j ≡ true → eqb k j ≡ false
 apart k j p q = go (eqb k j) refl
   where
     go : (b : Bool) → eqb k j ≡ b → b ≡ false

@@ -66,3 +66,35 @@ WriteThenRead =
     → writing b body (length room) ≡ Wrote.Length n
     → (readAt (roomAfter b body room) 0 ≡ Got.Block (placed b (length body)) (sizeOf b body) n)
     × (part (roomAfter b body room) (3 + fieldLength b) (length (bytesOf b body)) ≡ bytesOf b body)
+
+-- the bytes of a payload that a block shows
+abbrev pub shown : List ℕ → Block → List ℕ
+shown s (Body.DateTime t) = []
+shown s (Body.Options a b c d e f g h) = []
+shown s (Body.RouterInfo f g p) = part s (p .start) (p .len)
+shown s (Body.I2np k i x p) = part s (p .start) (p .len)
+shown s (Body.FirstFragment k i x p) = part s (p .start) (p .len)
+shown s (Body.FollowOnFragment n l i p) = part s (p .start) (p .len)
+shown s (Body.Termination n r) = []
+shown s (Body.Ack t n p) = part s (p .start) (p .len)
+shown s (Body.Address o p) = part s (p .start) (p .len)
+shown s Body.RelayTagRequest = []
+shown s (Body.RelayTag t) = []
+shown s (Body.NewToken x t) = []
+shown s (Body.PathChallenge p) = part s (p .start) (p .len)
+shown s (Body.PathResponse p) = part s (p .start) (p .len)
+shown s (Body.FirstPacketNumber n) = []
+shown s (Body.Congestion f) = []
+shown s (Body.Padding p) = part s (p .start) (p .len)
+shown s (Body.Opaque k p) = part s (p .start) (p .len)
+
+-- a block that was read, written with the bytes that it shows, is the same bytes again, where its size is what the writer puts
+abbrev pub ReadThenWrite : Type 0
+ReadThenWrite =
+    (s room : List ℕ) (at z next : ℕ) (b : Block)
+    → ((i : ℕ) → getD s i 0 < 256)
+    → readAt s at ≡ Got.Block b z next
+    → z ≡ sizeOf b (shown s b)
+    → next - at ≤ length room
+    → (writing b (shown s b) (length room) ≡ Wrote.Length (next - at))
+    × (roomAfter b (shown s b) room ≡ splice room 0 (part s at (next - at)))
