@@ -125,3 +125,16 @@ ended s at z t h e f =
 pub cut : (s : List ℕ) (at : ℕ) → length s < at + 3 → End.Refused 1 at ≡ extentAt s at
 unfolding extentAt
 cut s at h = sym (ap (λ (b : Bool). cond b (ends at (kindAt s at) (sizeAt s at) (takenAt s (at + 3) (kindAt s at) (sizeAt s at))) (End.Refused 1 at)) (lt-leb (at + 3) (length s) h))
+
+-- a refusal's place is the block's type byte
+pub refused-at : (s : List ℕ) (at m p : ℕ) → extentAt s at ≡ End.Refused m p → at ≡ p
+unfolding extentAt
+refused-at s at m p e = whole (leb (at + 3) (length s)) e
+  where
+    body : (t : Taken) → ends at (kindAt s at) (sizeAt s at) t ≡ End.Refused m p → at ≡ p
+    body (Take.Bytes n) f = let z : _≡_ {A = ℕ} 0 1 = cc in absurd (omega arith)
+    body (Take.Refused i) f = cc
+
+    whole : (b : Bool) → cond b (ends at (kindAt s at) (sizeAt s at) (takenAt s (at + 3) (kindAt s at) (sizeAt s at))) (End.Refused 1 at) ≡ End.Refused m p → at ≡ p
+    whole true f = body (takenAt s (at + 3) (kindAt s at) (sizeAt s at)) f
+    whole false f = cc

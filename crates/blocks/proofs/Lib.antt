@@ -2,5 +2,7 @@
 pub mod Ends
 pub mod Walk
 pub mod Puts
+pub mod Types
 pub mod WriteThenRead
 pub mod ReadThenWrite
+pub mod ListingIsReadings

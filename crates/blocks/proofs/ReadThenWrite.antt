@@ -29,58 +29,7 @@ use Rattle.blocks.specs.Writing.{kindOf, named, fieldBytes, fieldLength,
 use Rattle.blocks.specs.Claims.{shown, ReadThenWrite}
 use Rattle.blocks.proofs.Ends.{bounded}
 use Rattle.blocks.proofs.Puts.{one-byte, is-length}
-use Rattle.blocks.proofs.WriteThenRead.{apart}
-
--- ---- by type: each that has a body of its own, and the others
-
-seven : (Q : ℕ → Type 0) → Q 0 → Q 1 → Q 2 → Q 3 → Q 4 → Q 5 → Q 6 → (j : ℕ) → j ≤ 6 → Q j
-seven Q a b c d e f g zero h = a
-seven Q a b c d e f g (suc zero) h = b
-seven Q a b c d e f g (suc (suc zero)) h = c
-seven Q a b c d e f g (suc (suc (suc zero))) h = d
-seven Q a b c d e f g (suc (suc (suc (suc zero)))) h = e
-seven Q a b c d e f g (suc (suc (suc (suc (suc zero))))) h = f
-seven Q a b c d e f g (suc (suc (suc (suc (suc (suc zero)))))) h = g
-seven Q a b c d e f g (suc (suc (suc (suc (suc (suc (suc j))))))) h = absurd (omega arith)
-
-two : (Q : ℕ → Type 0) → Q 0 → Q 1 → (j : ℕ) → j ≤ 1 → Q j
-two Q a b zero h = a
-two Q a b (suc zero) h = b
-two Q a b (suc (suc j)) h = absurd (omega arith)
-
-or-true : (x y : Bool) → (x || y) ≡ true → (x ≡ true) ⊎ (y ≡ true)
-or-true true y e = inl refl
-or-true false y e = inr e
-
-and-true : (x y : Bool) → (x && y) ≡ true → (x ≡ true) × (y ≡ true)
-and-true true y e = (refl, e)
-and-true false y e = absurd (false≢true e)
-
-by-kind : (P : ℕ → Type 0) → P 0 → P 1 → P 2 → P 3 → P 4 → P 5 → P 6 → P 12 → P 13 → P 15 → P 16 → P 17 → P 18 → P 19 → P 20 → P 21 → P 254 → ((k : ℕ) → named k ≡ false → P k) → (k : ℕ) → P k
-unfolding named
-by-kind P p0 p1 p2 p3 p4 p5 p6 p12 p13 p15 p16 p17 p18 p19 p20 p21 p254 others k = go (named k) refl
-  where
-    up : (base : ℕ) → base ≤ k → P (base + (k - base)) → P k
-    up base h p = let e : base + (k - base) ≡ k = omega arith in subst P e p
-
-    low : leb k 6 ≡ true → P k
-    low e = seven P p0 p1 p2 p3 p4 p5 p6 k (leb-true k 6 e)
-
-    middle : within 12 13 k ≡ true → P k
-    middle e =
-        let b = and-true (leb 12 k) (leb k 13) e in
-        up 12 (leb-true 12 k (b .0)) (two (λ j. P (12 + j)) p12 p13 (k - 12) (omega (arith, leb-true k 13 (b .1))))
-
-    high : within 15 21 k ≡ true → P k
-    high e =
-        let b = and-true (leb 15 k) (leb k 21) e in
-        up 15 (leb-true 15 k (b .0)) (seven (λ j. P (15 + j)) p15 p16 p17 p18 p19 p20 p21 (k - 15) (omega (arith, leb-true k 21 (b .1))))
-
-    go : (b : Bool) → named k ≡ b → P k
-    go false e = others k e
-    go true e =
-        ⊎-elim (λ x. ⊎-elim (λ y. ⊎-elim low middle (or-true (leb k 6) (within 12 13 k) y)) high (or-true (leb k 6 || within 12 13 k) (within 15 21 k) x))
-        (λ x. subst P (sym (eqb-true k 254 x)) p254) (or-true ((leb k 6 || within 12 13 k) || within 15 21 k) (eqb k 254) e)
+use Rattle.blocks.proofs.Types.{by-kind, opaque-is}
 
 -- ---- what an answer says of the size
 
@@ -202,19 +151,39 @@ module _ (s : List ℕ) (bytes : Bytes s) (o z : ℕ) where
   unfolding takenAt blockAt faulty
   options n h e q =
       let t : 12 ≡ n = sym (ap (atLeast 12) q) ∙ given (fits {P = λ m. atLeast 12 z ≡ m} (atLeast 12 z) (length s - o) refl) e in
-      record { is-kind = refl; is-size = t; no-fault = refl; is-bytes =
-      rw (again s bytes 2 (o + 4) (omega arith), again s bytes 2 (o + 6) (omega arith), again s bytes 2 (o + 8) (omega arith), again s bytes 2 (o + 10) (omega arith),
-      join s bytes (o + 4) 2 (o + 6) 2 4 (omega arith) refl, join s bytes (o + 4) 4 (o + 8) 2 6 (omega arith) refl, join s bytes (o + 4) 6 (o + 10) 2 8 (omega arith) refl, append-nil (part s (o + 4) 8),
-      first s bytes (o + 3) (o + 4) 8 9 (omega arith) (omega arith) refl, first s bytes (o + 2) (o + 3) 9 10 (omega arith) (omega arith) refl, first s bytes (o + 1) (o + 2) 10 11 (omega arith) (omega arith) refl)
-      (first s bytes o (o + 1) 11 n (omega arith) refl (omega arith)) }
+      record {
+        is-kind = refl;
+        is-size = t;
+        no-fault = refl;
+        is-bytes =
+            rw (
+              again s bytes 2 (o + 4) (omega arith),
+              again s bytes 2 (o + 6) (omega arith),
+              again s bytes 2 (o + 8) (omega arith),
+              again s bytes 2 (o + 10) (omega arith),
+              join s bytes (o + 4) 2 (o + 6) 2 4 (omega arith) refl,
+              join s bytes (o + 4) 4 (o + 8) 2 6 (omega arith) refl,
+              join s bytes (o + 4) 6 (o + 10) 2 8 (omega arith) refl,
+              append-nil (part s (o + 4) 8),
+              first s bytes (o + 3) (o + 4) 8 9 (omega arith) (omega arith) refl,
+              first s bytes (o + 2) (o + 3) 9 10 (omega arith) (omega arith) refl,
+              first s bytes (o + 1) (o + 2) 10 11 (omega arith) (omega arith) refl,
+            )
+            (first s bytes o (o + 1) 11 n (omega arith) refl (omega arith));
+      }
 
   router-info : Goal 2
   unfolding takenAt blockAt faulty
   router-info n h e q =
       let g = given (of-router-info s o z) e in
       let l = length-part s (o + 2) (n - 2) (omega (arith, g .1)) in
-      record { is-kind = refl; is-size = omega (arith, g .1); no-fault = ne-eqb (length (part s (o + 2) (n - 2))) 0 (λ x. omega (arith, g .0, g .1)); is-bytes =
-      rw (first s bytes (o + 1) (o + 2) (n - 2) (n - 1) (omega (arith, g .1)) (omega arith) (omega (arith, g .1))) (first s bytes o (o + 1) (n - 1) n (omega (arith, g .1)) refl (omega (arith, g .1))) }
+      record {
+        is-kind = refl;
+        is-size = omega (arith, g .1);
+        no-fault = ne-eqb (length (part s (o + 2) (n - 2))) 0 (λ x. omega (arith, g .0, g .1));
+        is-bytes =
+            rw (first s bytes (o + 1) (o + 2) (n - 2) (n - 1) (omega (arith, g .1)) (omega arith) (omega (arith, g .1))) (first s bytes o (o + 1) (n - 1) n (omega (arith, g .1)) refl (omega (arith, g .1)));
+      }
 
   -- type, id, expiration, bytes: I2NP, FirstFragment
   message : (n : ℕ) → o + n ≤ length s → 9 ≤ n → getD s o 0 ∷ (bigBytes 4 (bigAt 4 s (o + 1)) ++ bigBytes 4 (bigAt 4 s (o + 5)) ++ part s (o + 9) (n - 9)) ≡ part s o n
@@ -234,8 +203,13 @@ module _ (s : List ℕ) (bytes : Bytes s) (o z : ℕ) where
   first-fragment n h e q =
       let g = given (of-first s o z) e in
       let l = length-part s (o + 9) (n - 9) (omega (arith, g .0, g .2)) in
-      record { is-kind = refl; is-size = omega (arith, g .0, g .2); is-bytes = message n h (omega (arith, g .0, g .2)); no-fault =
-      rw (ne-eqb (length (part s (o + 9) (n - 9))) 0 (λ x. omega (arith, g .0, g .2)), g .1) }
+      record {
+        is-kind = refl;
+        is-size = omega (arith, g .0, g .2);
+        is-bytes = message n h (omega (arith, g .0, g .2));
+        no-fault =
+            rw (ne-eqb (length (part s (o + 9) (n - 9))) 0 (λ x. omega (arith, g .0, g .2)), g .1);
+      }
 
   follow-on : Goal 5
   unfolding takenAt blockAt faulty
@@ -243,17 +217,27 @@ module _ (s : List ℕ) (bytes : Bytes s) (o z : ℕ) where
       let g = given (of-follow-on s o z) e in
       let l = length-part s (o + 5) (n - 5) (omega (arith, g .0, g .1)) in
       let v = bytes o in
-      record { is-kind = refl; is-size = omega (arith, g .0, g .1); no-fault =
-      rw (ne-eqb (length (part s (o + 5) (n - 5))) 0 (λ x. omega (arith, g .0, g .1)), le-ltb 127 (getD s o 0 / 2) (omega arith)); is-bytes =
-      rw (follow-byte (getD s o 0) v, again s bytes 4 (o + 1) (omega (arith, g .0, g .1)), join s bytes (o + 1) 4 (o + 5) (n - 5) (n - 1) (omega arith) (omega (arith, g .0, g .1)))
-      (first s bytes o (o + 1) (n - 1) n (omega (arith, g .0, g .1)) refl (omega (arith, g .0, g .1))) }
+      record {
+        is-kind = refl;
+        is-size = omega (arith, g .0, g .1);
+        no-fault =
+            rw (ne-eqb (length (part s (o + 5) (n - 5))) 0 (λ x. omega (arith, g .0, g .1)), le-ltb 127 (getD s o 0 / 2) (omega arith));
+        is-bytes =
+            rw (follow-byte (getD s o 0) v, again s bytes 4 (o + 1) (omega (arith, g .0, g .1)), join s bytes (o + 1) 4 (o + 5) (n - 5) (n - 1) (omega arith) (omega (arith, g .0, g .1)))
+            (first s bytes o (o + 1) (n - 1) n (omega (arith, g .0, g .1)) refl (omega (arith, g .0, g .1)));
+      }
 
   termination : Goal 6
   unfolding takenAt blockAt faulty
   termination n h e q =
       let t : 9 ≡ n = sym (ap (atLeast 9) q) ∙ given (fits {P = λ m. atLeast 9 z ≡ m} (atLeast 9 z) (length s - o) refl) e in
-      record { is-kind = refl; is-size = t; no-fault = refl; is-bytes =
-      rw (again s bytes 8 o (omega arith), one s bytes (o + 8) (omega arith), append-nil (part s o 8 ++ part s (o + 8) 1)) (join s bytes o 8 (o + 8) 1 n refl (sym t)) }
+      record {
+        is-kind = refl;
+        is-size = t;
+        no-fault = refl;
+        is-bytes =
+            rw (again s bytes 8 o (omega arith), one s bytes (o + 8) (omega arith), append-nil (part s o 8 ++ part s (o + 8) 1)) (join s bytes o 8 (o + 8) 1 n refl (sym t));
+      }
 
   ack : Goal 12
   unfolding takenAt blockAt faulty
@@ -261,8 +245,13 @@ module _ (s : List ℕ) (bytes : Bytes s) (o z : ℕ) where
       let g : 5 + pairsIn z ≡ n = given (fits {P = λ m. 5 + pairsIn z ≡ m} (5 + pairsIn z) (length s - o) refl) e in
       let l = length-part s (o + 5) (n - 5) (omega arith) in
       let p : length (part s (o + 5) (n - 5)) ≡ pairsIn z = omega arith in
-      record { is-kind = refl; is-size = omega arith; no-fault = rw p (ne-eqb (pairsIn z % 2) 1 (λ x. omega (arith, even-pairs z))); is-bytes =
-      rw (again s bytes 4 o (omega arith), one s bytes (o + 4) (omega arith), join s bytes o 4 (o + 4) 1 5 refl refl) (join s bytes o 5 (o + 5) (n - 5) n refl (omega arith)) }
+      record {
+        is-kind = refl;
+        is-size = omega arith;
+        no-fault = rw p (ne-eqb (pairsIn z % 2) 1 (λ x. omega (arith, even-pairs z)));
+        is-bytes =
+            rw (again s bytes 4 o (omega arith), one s bytes (o + 4) (omega arith), join s bytes o 4 (o + 4) 1 5 refl refl) (join s bytes o 5 (o + 5) (n - 5) n refl (omega arith));
+      }
 
   an-address : Goal 13
   unfolding takenAt blockAt faulty
@@ -270,9 +259,14 @@ module _ (s : List ℕ) (bytes : Bytes s) (o z : ℕ) where
       let g : (n ≡ 6) ⊎ (n ≡ 18) = given (of-address s o z) e in
       let m : 2 ≤ n = ⊎-elim (λ x. omega arith) (λ x. omega arith) g in
       let l = length-part s (o + 2) (n - 2) (omega arith) in
-      record { is-kind = refl; is-size = omega arith; no-fault =
-      ⊎-elim (λ x. let y : length (part s (o + 2) (n - 2)) ≡ 4 = omega arith in rw y) (λ x. let y : length (part s (o + 2) (n - 2)) ≡ 16 = omega arith in rw y) g; is-bytes =
-      rw (again s bytes 2 o (omega arith)) (join s bytes o 2 (o + 2) (n - 2) n refl (omega arith)) }
+      record {
+        is-kind = refl;
+        is-size = omega arith;
+        no-fault =
+            ⊎-elim (λ x. let y : length (part s (o + 2) (n - 2)) ≡ 4 = omega arith in rw y) (λ x. let y : length (part s (o + 2) (n - 2)) ≡ 16 = omega arith in rw y) g;
+        is-bytes =
+            rw (again s bytes 2 o (omega arith)) (join s bytes o 2 (o + 2) (n - 2) n refl (omega arith));
+      }
 
   relay-tag-request : Goal 15
   unfolding takenAt blockAt faulty part
@@ -288,8 +282,13 @@ module _ (s : List ℕ) (bytes : Bytes s) (o z : ℕ) where
   unfolding takenAt blockAt faulty
   new-token n h e q =
       let t : 12 ≡ n = given (fits {P = λ m. 12 ≡ m} 12 (length s - o) refl) e in
-      record { is-kind = refl; is-size = t; no-fault = refl; is-bytes =
-      rw (again s bytes 4 o (omega arith), again s bytes 8 (o + 4) (omega arith), append-nil (part s o 4 ++ part s (o + 4) 8)) (join s bytes o 4 (o + 4) 8 n refl (sym t)) }
+      record {
+        is-kind = refl;
+        is-size = t;
+        no-fault = refl;
+        is-bytes =
+            rw (again s bytes 4 o (omega arith), again s bytes 8 (o + 4) (omega arith), append-nil (part s o 4 ++ part s (o + 4) 8)) (join s bytes o 4 (o + 4) 8 n refl (sym t));
+      }
 
   first-packet-number : Goal 20
   unfolding takenAt blockAt faulty
@@ -314,15 +313,10 @@ module _ (s : List ℕ) (bytes : Bytes s) (o z : ℕ) where
   unfolding takenAt blockAt faulty
   padding n h e q = record { is-kind = refl; is-size = omega (arith, length-part s o n h); no-fault = refl; is-bytes = refl }
 
-  opaque-is : (k n : ℕ) → named k ≡ false → blockAt s o k n ≡ Body.Opaque k (bytesAt o n)
-  unfolding blockAt named
-  opaque-is k n f =
-      rw (apart k 0 f refl, apart k 1 f refl, apart k 2 f refl, apart k 3 f refl, apart k 4 f refl, apart k 5 f refl, apart k 6 f refl, apart k 12 f refl, apart k 13 f refl, apart k 15 f refl, apart k 16 f refl, apart k 17 f refl, apart k 18 f refl, apart k 19 f refl, apart k 20 f refl, apart k 21 f refl, apart k 254 f refl)
-
   other : (k : ℕ) → named k ≡ false → Goal k
   unfolding faulty
   other k f n h e q =
-      subst (Same k n) (sym (opaque-is k n f))
+      subst (Same k n) (sym (opaque-is s o k n f))
       (record { is-kind = refl; is-size = omega (arith, length-part s o n h); no-fault = f; is-bytes = refl })
 
   every : (k : ℕ) → Goal k
@@ -332,12 +326,12 @@ module _ (s : List ℕ) (bytes : Bytes s) (o z : ℕ) where
 -- ---- together
 
 -- what a block that was read comes from
-record Comes (s : List ℕ) (at z next : ℕ) (b : Block) : Type 0 where
-  kind : ℕ
-  extent : extentAt s at ≡ End.Ends kind z next
-  value : blockAt s (at + 3) kind (next - (at + 3)) ≡ b
+pub record Comes (s : List ℕ) (at z next : ℕ) (b : Block) : Type 0 where
+  pub kind : ℕ
+  pub extent : extentAt s at ≡ End.Ends kind z next
+  pub value : blockAt s (at + 3) kind (next - (at + 3)) ≡ b
 
-comes : (s : List ℕ) (at z next : ℕ) (b : Block) → readAt s at ≡ Got.Block b z next → Comes s at z next b
+pub comes : (s : List ℕ) (at z next : ℕ) (b : Block) → readAt s at ≡ Got.Block b z next → Comes s at z next b
 unfolding readAt
 comes s at z next b e = go (extentAt s at) refl e
   where

@@ -29,6 +29,7 @@ use Rattle.blocks.specs.Writing.{kindOf, named, fieldBytes, fieldLength,
 use Rattle.blocks.specs.Claims.{Fitting, placed, WriteThenRead}
 use Rattle.blocks.proofs.Ends.{ended}
 use Rattle.blocks.proofs.Puts.{fields-length, one-byte}
+use Rattle.blocks.proofs.Types.{apart}
 
 -- ---- what the writer's answer says
 
@@ -84,14 +85,6 @@ or-false false y e = (refl, e)
 not-false : (x : Bool) → not x ≡ false → x ≡ true
 not-false true e = refl
 not-false false e = sym e
-
--- a type that has no body of its own is none of those that have one
-pub apart : (k j : ℕ) → named k ≡ false → named j ≡ true → eqb k j ≡ false
-apart k j p q = go (eqb k j) refl
-  where
-    go : (b : Bool) → eqb k j ≡ b → b ≡ false
-    go true e = absurd (false≢true (sym p ∙ ap named (eqb-true k j e) ∙ q))
-    go false e = refl
 
 -- ---- the body's value
 

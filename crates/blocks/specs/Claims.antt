@@ -98,3 +98,22 @@ ReadThenWrite =
     → next - at ≤ length room
     → (writing b (shown s b) (length room) ≡ Wrote.Length (next - at))
     × (roomAfter b (shown s b) room ≡ splice room 0 (part s at (next - at)))
+
+-- the readings one after the other, from a place to the payload's end
+pub data Readings (s : List ℕ) : ℕ → List Entry → Type 0 where
+  done : Readings s (length s) []
+  read : {at z next : ℕ} {b : Block} {es : List Entry} → readAt s at ≡ Got.Block b z next → Readings s next es → Readings s at (entry at (kindOf b) z ∷ es)
+
+-- the readings one after the other, from a place to the block at p, which is refused with m
+pub data Stops (s : List ℕ) (m p : ℕ) : ℕ → Type 0 where
+  refused : readAt s p ≡ Got.Refused m p → Stops s m p p
+  read : {at z next : ℕ} {b : Block} → readAt s at ≡ Got.Block b z next → next < length s → Stops s m p next → Stops s m p at
+
+-- a payload's blocks are its readings, one or more, up to its end; where one is refused, so is the payload, at that place
+abbrev pub ListingIsReadings : Type 0
+ListingIsReadings =
+    (s : List ℕ)
+    → ((es : List Entry) → blocksOf s ≡ ok es → Readings s 0 es × (0 < length es))
+    × ((es : List Entry) → Readings s 0 es → 0 < length es → blocksOf s ≡ ok es)
+    × ((m p : ℕ) → blocksOf s ≡ no m p → Stops s m p 0)
+    × ((m p : ℕ) → Stops s m p 0 → blocksOf s ≡ no m p)
