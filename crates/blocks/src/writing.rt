@@ -24,7 +24,7 @@ fn is_named(kind: u8) -> bool
 }
 
 // The type byte of a block.
-pub fn kind_of(block: Block) -> u8
+fn kind_of(block: Block) -> u8
     ensures { λ r. ⌜ r ≡ kindOf block ⌝ }
 {
     match block {
@@ -76,7 +76,7 @@ fn field_length(block: Block) -> usize
 }
 
 // Whether a block has bytes after its fields.
-pub fn carries_bytes(block: Block) -> bool
+fn carries_bytes(block: Block) -> bool
     ensures { λ r. ⌜ r ≡ carries block ⌝ }
 {
     match block {

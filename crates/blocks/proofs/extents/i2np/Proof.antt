@@ -1,3 +1,6 @@
+use Prim.Native.Nat.{_-_}
+use lib.ListN.{length}
+use native.Mathlib.Omega.{arith}
 use mathlib.Core.Path.{_≡_, refl, sym, ap, _∙_}
 use borrow.Author.Tests.{lt-ltb, le-ltb}
 use Rattle.blocks.specs.Extent.{i2np}
@@ -10,11 +13,11 @@ sub-left c = search needs
 
 returns : tie.Need-returns
 unfolding i2np
-returns c = simp (lt-ltb _ _ (c .if1 .taken))
+returns c = let a = c .before .before .args in simp (lt-ltb (a .size) 9 (omega arith))
 
 returns-2 : tie.Need-returns-2
 unfolding i2np
-returns-2 c = simp (le-ltb _ _ (c .before .if1 .left), lt-ltb _ _ (c .if2 .taken))
+returns-2 c = let a = c .before .before .before .args in simp (le-ltb (a .size) 9 (omega arith), lt-ltb (length (a .payload .now) - a .body) 9 (omega arith))
 
 shared-slice-read-is-listed : tie.Need-shared-slice-read-is-listed
 shared-slice-read-is-listed c = search needs
@@ -27,11 +30,11 @@ fits-in-requires c κs = search needs
 
 returns-3 : tie.Need-returns-3
 unfolding i2np
-returns-3 c = c .fits-in .ensures ∙ sym (simp (le-ltb _ _ (c .before .before .before .before .before .if1 .left), le-ltb _ _ (c .before .before .before .before .if2 .left), sym (c .before .before .is-listed .ensures) ∙ c .before .if3 .taken))
+returns-3 c = let a = c .before .before .before .before .before .before .before .args in c .fits-in .ensures ∙ sym (simp (le-ltb (a .size) 9 (omega arith), le-ltb (length (a .payload .now) - a .body) 9 (omega arith), sym (c .before .before .is-listed .ensures) ∙ c .before .if3 .taken))
 
 returns-4 : tie.Need-returns-4
 unfolding i2np
-returns-4 c = simp (le-ltb _ _ (c .before .before .before .before .if1 .left), le-ltb _ _ (c .before .before .before .if2 .left), sym (c .before .is-listed .ensures) ∙ c .if3 .left)
+returns-4 c = let a = c .before .before .before .before .before .before .args in simp (le-ltb (a .size) 9 (omega arith), le-ltb (length (a .payload .now) - a .body) 9 (omega arith), sym (c .before .is-listed .ensures) ∙ c .if3 .left)
 
 pub i2np-spec : {M : Type 1} → statement M
 i2np-spec =

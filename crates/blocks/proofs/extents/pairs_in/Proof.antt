@@ -1,6 +1,6 @@
+use Prim.Native.Nat.{_-_, _%_}
 use mathlib.Core.Path.{_≡_, refl, sym, ap, _∙_}
 use native.Mathlib.Omega.{arith}
-use Prim.Native.Nat.{_-_}
 use borrow.Author.Tests.{eq-eqb, ne-eqb}
 use Rattle.blocks.specs.Extent.{pairsIn}
 use borrow.Author.Needs.{needs}
@@ -19,11 +19,11 @@ sub-result c = search needs
 
 returns-2 : tie.Need-returns-2
 unfolding pairsIn
-returns-2 c = (simp (c .if2 .taken), search needs)
+returns-2 c = let a = c .before .before .args in (simp (eq-eqb ((a .size - 5) % 2) 0 (omega arith)), search needs)
 
 returns-3 : tie.Need-returns-3
 unfolding pairsIn
-returns-3 c = (simp (ne-eqb _ _ (c .if2 .left)), search needs)
+returns-3 c = let a = c .before .before .args in (simp (ne-eqb ((a .size - 5) % 2) 0 (c .if2 .left)), search needs)
 
 pub pairs-in-spec : {M : Type 1} → statement M
 pairs-in-spec = tie.close (tie.spec returns sub-if2 sub-result returns-2 returns-3)
