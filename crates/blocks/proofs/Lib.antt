@@ -6,3 +6,4 @@ pub mod Types
 pub mod WriteThenRead
 pub mod ReadThenWrite
 pub mod ListingIsReadings
+pub mod Cases

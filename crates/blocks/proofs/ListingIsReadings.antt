@@ -17,10 +17,10 @@ use Rattle.blocks.specs.Extent.{extentAt}
 use Rattle.blocks.specs.Reading.{blockAt, reading, readAt}
 use Rattle.blocks.specs.Writing.{kindOf}
 use Rattle.blocks.specs.Listing.{Listing, ok, no, entry, cons, onward, blocksFrom, blocksOf}
-use Rattle.blocks.specs.Claims.{Readings, Stops, ListingIsReadings}
+use Rattle.blocks.specs.Claims.{Readings, Stops, ListingIsReadings, StepsAreTheListing}
 use Rattle.blocks.specs.Claims as Claims
 use Rattle.blocks.proofs.Ends.{cut, refused-at}
-use Rattle.blocks.proofs.Walk.{goes-on}
+use Rattle.blocks.proofs.Walk.{goes-on, listed}
 use Rattle.blocks.proofs.Types.{kind-of-block}
 use Rattle.blocks.proofs.ReadThenWrite.{comes}
 
@@ -162,3 +162,7 @@ listing-is-readings s = (
         ap (λ (f : ℕ). blocksFrom f s p) q ∙ ap (λ (j : ℕ). no j p) i
     whole m p zero q (Claims.Stops.read e i r) = absurd (omega arith)
     whole m p (suc n) q t = refuses t (length s) (omega arith) (omega arith)
+
+pub steps-are-the-listing : StepsAreTheListing
+unfolding blocksOf
+steps-are-the-listing s es e = listed (length s) s 0 es e

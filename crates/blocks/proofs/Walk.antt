@@ -15,23 +15,29 @@ use Rattle.blocks.specs.declared.Entry.{Entry}
 use Rattle.blocks.specs.declared.Step.{Step}
 use Rattle.blocks.specs.declared.Answer.{Answer}
 use Rattle.blocks.specs.Extent.{extentAt}
-use Rattle.blocks.specs.Listing.{Listing, ok, no, entry, cons, onward, blocksFrom, blocksOf, limited, listing, counts, refusal, answerOf, filled, refusalOf, stepOf, stepAt}
-use Rattle.blocks.proofs.Ends.{bounded, cut}
+use Rattle.blocks.specs.Listing.{Listing, ok, no, entry, cons, onward, blocksFrom, blocksOf, limited, listing, counts, refusal, answerOf, filled, refusalOf, stepOf, stepAt, entriesFrom}
+use Rattle.blocks.proofs.Ends.{bounded}
 
 -- the one thing
 pub goes-on : (s : List ℕ) (at k z next : ℕ) → extentAt s at ≡ End.Ends k z next → (at + 3 ≤ next) × (next ≤ length s)
 goes-on s at k z next e = let b = bounded s at k z next e in (omega (arith, b .fields), b .inside)
 
 -- steps beyond the bytes that are left change nothing
-enough : (f g : ℕ) (s : List ℕ) (at : ℕ) → length s - at ≤ f → length s - at ≤ g → blocksFrom f s at ≡ blocksFrom g s at
+enough : (f g : ℕ) (s : List ℕ) (at : ℕ) → at < length s → length s - at ≤ f → length s - at ≤ g → blocksFrom f s at ≡ blocksFrom g s at
 unfolding blocksFrom
-enough zero zero s at hf hg = refl
-enough zero (suc g) s at hf hg = ap (onward s at (blocksFrom g s)) (cut s at (omega arith))
-enough (suc f) zero s at hf hg = sym (ap (onward s at (blocksFrom f s)) (cut s at (omega arith)))
-enough (suc f) (suc g) s at hf hg = go (λ next h. enough f g s next (omega arith) (omega arith)) (extentAt s at) refl
+enough zero g s at h hf hg = absurd (omega arith)
+enough (suc f) zero s at h hf hg = absurd (omega arith)
+enough (suc f) (suc g) s at h hf hg = go (λ next i j. enough f g s next j (omega arith) (omega arith)) (extentAt s at) refl
   where
-    go : ((next : ℕ) → (at + 3 ≤ next) × (next ≤ length s) → blocksFrom f s next ≡ blocksFrom g s next) → (e : Extent) → extentAt s at ≡ e → onward s at (blocksFrom f s) e ≡ onward s at (blocksFrom g s) e
-    go same (End.Ends k z next) q = ap (λ (l : Listing). cons (entry at k z) (cond (ltb next (length s)) l (ok []))) (same next (goes-on s at k z next q))
+    Rest : Type 0
+    Rest = (next : ℕ) → at + 3 ≤ next → next < length s → blocksFrom f s next ≡ blocksFrom g s next
+
+    tail : Rest → (next : ℕ) → at + 3 ≤ next → (b : Bool) → ltb next (length s) ≡ b → cond b (blocksFrom f s next) (ok []) ≡ cond b (blocksFrom g s next) (ok [])
+    tail same next i true q = same next i (ltb-true next (length s) q)
+    tail same next i false q = refl
+
+    go : Rest → (e : Extent) → extentAt s at ≡ e → onward s at (blocksFrom f s) e ≡ onward s at (blocksFrom g s) e
+    go same (End.Ends k z next) q = ap (cons (entry at k z)) (tail same next (goes-on s at k z next q .0) (ltb next (length s)) refl)
     go same (End.Refused m p) q = refl
 
 -- the blocks that are still to come at a place, none at the payload's end
@@ -53,8 +59,11 @@ module _ (s : List ℕ) (at : ℕ) (inside : at < length s) where
   pub turns : (k z next : ℕ) → extentAt s at ≡ End.Ends k z next → rest s at ≡ cons (entry at k z) (rest s next)
   turns k z next e =
       let h = goes-on s at k z next e in
-      rw (lt-ltb at (length s) inside) (one ∙ ap (onward s at (blocksFrom (length s - at - 1) s)) e
-      ∙ ap (λ (l : Listing). cons (entry at k z) (cond (ltb next (length s)) l (ok []))) (enough (length s - at - 1) (length s - next) s next (omega arith) (omega arith)))
+      rw (lt-ltb at (length s) inside) (one ∙ ap (onward s at (blocksFrom (length s - at - 1) s)) e ∙ ap (cons (entry at k z)) (tail h (ltb next (length s)) refl))
+    where
+      tail : (at + 3 ≤ next) × (next ≤ length s) → (b : Bool) → ltb next (length s) ≡ b → cond b (blocksFrom (length s - at - 1) s next) (ok []) ≡ cond b (blocksFrom (length s - next) s next) (ok [])
+      tail h true q = enough (length s - at - 1) (length s - next) s next (ltb-true next (length s) q) (omega (arith, h .0)) (omega arith)
+      tail h false q = refl
 
   pub refuses : (m p : ℕ) → extentAt s at ≡ End.Refused m p → rest s at ≡ no m p
   refuses m p e = rw (lt-ltb at (length s) inside) (one ∙ ap (onward s at (blocksFrom (length s - at - 1) s)) e)
@@ -107,11 +116,6 @@ unfolding listing blocksOf blocksFrom
 nothing c s h = sym (ap (λ (f : ℕ). answerOf (limited c (blocksFrom f s 0))) h)
 
 -- ---- filling
-
--- the records of the k blocks from a place on
-abbrev pub entriesFrom : ℕ → List ℕ → ℕ → List Entry
-entriesFrom zero s at = []
-entriesFrom (suc k) s at = stepAt s at .entry ∷ entriesFrom k s (stepAt s at .next)
 
 -- where there is a listing, its records are those
 pub listed : (f : ℕ) (s : List ℕ) (at : ℕ) (es : List Entry) → blocksFrom f s at ≡ ok es → entriesFrom (length es) s at ≡ es

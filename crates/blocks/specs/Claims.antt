@@ -12,9 +12,9 @@ use Rattle.blocks.specs.declared.Read.{Read}
 use Rattle.blocks.specs.declared.Read.the-variants as Got
 use Rattle.blocks.specs.declared.Written.the-variants as Wrote
 use Rattle.blocks.specs.declared.Entry.{Entry}
-use Rattle.blocks.specs.Reading.{bytesAt, readAt}
+use Rattle.blocks.specs.Reading.{bytesAt, readAt, partOf}
 use Rattle.blocks.specs.Writing.{kindOf, fieldLength, bytesOf, sizeOf, writing, roomAfter}
-use Rattle.blocks.specs.Listing.{ok, no, entry, blocksOf}
+use Rattle.blocks.specs.Listing.{ok, no, entry, blocksOf, entriesFrom}
 
 -- every number of a block fits its bytes, as it does in a value of the program
 abbrev pub Fitting : Block → Type 0
@@ -69,24 +69,7 @@ WriteThenRead =
 
 -- the bytes of a payload that a block shows
 abbrev pub shown : List ℕ → Block → List ℕ
-shown s (Body.DateTime t) = []
-shown s (Body.Options a b c d e f g h) = []
-shown s (Body.RouterInfo f g p) = part s (p .start) (p .len)
-shown s (Body.I2np k i x p) = part s (p .start) (p .len)
-shown s (Body.FirstFragment k i x p) = part s (p .start) (p .len)
-shown s (Body.FollowOnFragment n l i p) = part s (p .start) (p .len)
-shown s (Body.Termination n r) = []
-shown s (Body.Ack t n p) = part s (p .start) (p .len)
-shown s (Body.Address o p) = part s (p .start) (p .len)
-shown s Body.RelayTagRequest = []
-shown s (Body.RelayTag t) = []
-shown s (Body.NewToken x t) = []
-shown s (Body.PathChallenge p) = part s (p .start) (p .len)
-shown s (Body.PathResponse p) = part s (p .start) (p .len)
-shown s (Body.FirstPacketNumber n) = []
-shown s (Body.Congestion f) = []
-shown s (Body.Padding p) = part s (p .start) (p .len)
-shown s (Body.Opaque k p) = part s (p .start) (p .len)
+shown s b = part s (partOf b .start) (partOf b .len)
 
 -- a block that was read, written with the bytes that it shows, is the same bytes again, where its size is what the writer puts
 abbrev pub ReadThenWrite : Type 0
@@ -117,3 +100,7 @@ ListingIsReadings =
     × ((es : List Entry) → Readings s 0 es → 0 < length es → blocksOf s ≡ ok es)
     × ((m p : ℕ) → blocksOf s ≡ no m p → Stops s m p 0)
     × ((m p : ℕ) → Stops s m p 0 → blocksOf s ≡ no m p)
+
+-- a program that goes by `step_at` meets the records of the listing, one after the other
+abbrev pub StepsAreTheListing : Type 0
+StepsAreTheListing = (s : List ℕ) (es : List Entry) → blocksOf s ≡ ok es → entriesFrom (length es) s 0 ≡ es

@@ -4,3 +4,4 @@ pub mod Reading
 pub mod Listing
 pub mod Writing
 pub mod Claims
+pub mod Cases

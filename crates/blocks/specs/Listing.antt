@@ -73,3 +73,8 @@ stepOf at (End.Refused m p) = record { entry = entry p 0 0; next = p }
 
 abbrev pub stepAt : List ℕ → ℕ → Step
 stepAt s at = stepOf at (extentAt s at)
+
+-- the records of the k blocks from a place on, step by step
+abbrev pub entriesFrom : ℕ → List ℕ → ℕ → List Entry
+entriesFrom zero s at = []
+entriesFrom (suc k) s at = stepAt s at .entry ∷ entriesFrom k s (stepAt s at .next)

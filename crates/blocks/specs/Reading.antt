@@ -85,3 +85,24 @@ reading s at (End.Refused number place) = Got.Refused number place
 -- the block at a place, or the refusal
 unfoldable pub readAt : List ℕ → ℕ → Read
 readAt s at = reading s at (extentAt s at)
+
+-- the bytes that a block shows after its fields; none where it has none
+abbrev pub partOf : Block → Part
+partOf (Body.DateTime t) = bytesAt 0 0
+partOf (Body.Options a b c d e f g h) = bytesAt 0 0
+partOf (Body.RouterInfo f g p) = p
+partOf (Body.I2np k i x p) = p
+partOf (Body.FirstFragment k i x p) = p
+partOf (Body.FollowOnFragment n l i p) = p
+partOf (Body.Termination n r) = bytesAt 0 0
+partOf (Body.Ack t n p) = p
+partOf (Body.Address o p) = p
+partOf Body.RelayTagRequest = bytesAt 0 0
+partOf (Body.RelayTag t) = bytesAt 0 0
+partOf (Body.NewToken x t) = bytesAt 0 0
+partOf (Body.PathChallenge p) = p
+partOf (Body.PathResponse p) = p
+partOf (Body.FirstPacketNumber n) = bytesAt 0 0
+partOf (Body.Congestion f) = bytesAt 0 0
+partOf (Body.Padding p) = p
+partOf (Body.Opaque k p) = p

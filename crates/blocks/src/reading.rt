@@ -11,7 +11,7 @@ ghost use mathlib.Core.Path.{_≡_};
 ghost use Prim.Native.Nat.{_+_, _-_, _<_, _≤_};
 ghost use lib.ListN.{length};
 ghost use Rattle.blocks.specs.Extent.{fieldsOf};
-ghost use Rattle.blocks.specs.Reading.{bytesAt, optionsAt, routerInfoAt, i2npAt, firstFragmentAt, followOnAt, terminationAt, ackAt, addressAt, newTokenAt, blockAt, readAt};
+ghost use Rattle.blocks.specs.Reading.{bytesAt, optionsAt, routerInfoAt, i2npAt, firstFragmentAt, followOnAt, terminationAt, ackAt, addressAt, newTokenAt, blockAt, readAt, partOf};
 
 // The part of a body after its fields.
 fn after(body: usize, fields: usize, taken: usize) -> Part
@@ -180,5 +180,32 @@ pub fn read_block(payload: &[u8], at: usize) -> Read
             next,
         },
         Extent::Refused { number, place } => Read::Refused { number, place },
+    }
+}
+
+// The bytes that a block shows after its fields; an empty part where it has none.
+pub fn part_of(block: Block) -> Part
+    ensures { λ r. ⌜ r ≡ partOf block ⌝ }
+{
+    let none = Part { start: 0, len: 0 };
+    match block {
+        Block::DateTime { .. } => none,
+        Block::Options { .. } => none,
+        Block::RouterInfo { bytes, .. } => bytes,
+        Block::I2np { bytes, .. } => bytes,
+        Block::FirstFragment { bytes, .. } => bytes,
+        Block::FollowOnFragment { bytes, .. } => bytes,
+        Block::Termination { .. } => none,
+        Block::Ack { pairs, .. } => pairs,
+        Block::Address { ip, .. } => ip,
+        Block::RelayTagRequest => none,
+        Block::RelayTag { .. } => none,
+        Block::NewToken { .. } => none,
+        Block::PathChallenge { bytes } => bytes,
+        Block::PathResponse { bytes } => bytes,
+        Block::FirstPacketNumber { .. } => none,
+        Block::Congestion { .. } => none,
+        Block::Padding { bytes } => bytes,
+        Block::Opaque { bytes, .. } => bytes,
     }
 }

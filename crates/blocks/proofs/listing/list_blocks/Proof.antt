@@ -53,8 +53,8 @@ use denote.Exit.{yes}
 use Rattle.blocks.specs.declared.Entry.{Entry}
 use Rattle.blocks.specs.declared.Step.{Step}
 use Rattle.blocks.specs.declared.Answer.{Answer}
-use Rattle.blocks.specs.Listing.{stepAt, listing, answerOf, filled}
-use Rattle.blocks.proofs.Walk.{entriesFrom, filling}
+use Rattle.blocks.specs.Listing.{stepAt, listing, answerOf, filled, entriesFrom}
+use Rattle.blocks.proofs.Walk.{filling}
 use Rattle.blocks.proofs.Entry as T
 use Rattle.blocks.proofs.Entry.Laws as T′
 use Rattle.blocks.proofs.Step as S
