@@ -1,9 +1,8 @@
 -- 01's cases about blocks, computed. Assumes nothing.
 use mathlib.Core.Path.{refl}
-use mathlib.Core.List.{reverse}
 use Rattle.wire.specs.Parts.{part}
 use Rattle.wire.specs.Numbers.{little, big, bigAt}
-use Rattle.blocks.specs.Extent.{listed, i2np, firstFragment, followOn, pairsIn, address, routerInfo, takenAt, extentAt}
+use Rattle.blocks.specs.Extent.{listed, firstFragment, pairsIn, address, takenAt, extentAt}
 use Rattle.blocks.specs.Reading.{blockAt, readAt}
 use Rattle.blocks.specs.Listing.{blocksFrom, blocksOf}
 use Rattle.blocks.specs.Cases.{CasesHold}

@@ -2,9 +2,8 @@
 use mathlib.Core.Path.{_≡_, refl, sym, ap, _∙_}
 use mathlib.Core.Bool.{Bool, true, false, cond}
 use mathlib.Core.List.{List, [], _∷_, _++_, append-nil, append-assoc}
-use Prim.Native.Nat.{ℕ, _+_, _*_, _%_, _≤_, _<_}
+use Prim.Native.Nat.{ℕ, _+_, _%_, _≤_, _<_}
 use native.Mathlib.Omega.{arith}
-use lib.Dec.{ltb}
 use lib.ListN.{length, take, drop, length-append, take-append-drop}
 use borrow.Author.Tests.{lt-ltb, le-ltb}
 use Rattle.wire.specs.Parts.{splice}
@@ -15,7 +14,7 @@ use Rattle.blocks.specs.declared.Block.{Block}
 use Rattle.blocks.specs.declared.Block.the-variants as Body
 use Rattle.blocks.specs.declared.Written.{Written}
 use Rattle.blocks.specs.declared.Written.the-variants as Wrote
-use Rattle.blocks.specs.Writing.{fieldBytes, fieldLength, carries, bytesOf, sizeOf, faulty, writing, stored, roomAfter}
+use Rattle.blocks.specs.Writing.{fieldBytes, fieldLength, carries, sizeOf, faulty, writing, stored, roomAfter}
 
 -- one put after a run of puts that is k long
 pub puts : (l : List ℕ) (o k j p : ℕ) (v w : List ℕ) {m n : List ℕ} → length v ≡ k → length w ≡ j → p ≡ o + k → o + k + j ≤ length l → m ≡ splice l o v → n ≡ splice m p w → (n ≡ splice l o (v ++ w)) × (length (v ++ w) ≡ k + j)

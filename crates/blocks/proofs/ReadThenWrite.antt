@@ -1,31 +1,28 @@
 -- Reading then writing gives the same bytes where size is what the writer puts. Assumes nothing.
 use mathlib.Core.Path.{_≡_, refl, sym, ap, _∙_, subst}
-use mathlib.Core.Bool.{Bool, true, false, cond, not, _&&_, _||_, false≢true}
+use mathlib.Core.Bool.{Bool, true, false, cond, not}
 use mathlib.Core.List.{List, [], _∷_, _++_, append-assoc, append-nil}
 use mathlib.Core.Logic.{_⊎_, inl, inr, ⊎-elim}
-use Prim.Native.Nat.{ℕ, zero, suc, _+_, _-_, _*_, _/_, _%_, _^_, _<_, _≤_}
+use Prim.Native.Nat.{ℕ, suc, _+_, _-_, _*_, _/_, _%_, _^_, _<_, _≤_}
 use native.Mathlib.Omega.{arith}
 use lib.Dec.{ltb, leb, eqb}
 use lib.ListN.{length, take, drop, getD}
-use lib.Seq.{getD-drop}
-use borrow.Author.Tests.{ltb-false, leb-true, leb-false, eqb-true, eqb-false, le-leb, lt-leb, le-ltb, eq-eqb, ne-eqb}
+use borrow.Author.Tests.{ltb-false, leb-false, eqb-true, eqb-false, le-ltb, ne-eqb}
 use Rattle.wire.specs.Parts.{part, splice}
-use Rattle.wire.specs.Numbers.{big, bigBytes, bigAt}
+use Rattle.wire.specs.Numbers.{Bytes, big, bigBytes, bigAt}
 use Rattle.wire.proofs.Parts.{length-part, part-add, part-cons, part-reads}
-use Rattle.wire.proofs.Numbers.{Bytes, big-again, big-lt, length-big}
+use Rattle.wire.proofs.Numbers.{bytes-part, bigAt-again, big-lt}
 use Rattle.blocks.specs.declared.Block.{Block}
-use Rattle.blocks.specs.declared.Block.the-variants as Body
 use Rattle.blocks.specs.declared.Taken.{Taken}
 use Rattle.blocks.specs.declared.Taken.the-variants as Take
 use Rattle.blocks.specs.declared.Extent.{Extent}
 use Rattle.blocks.specs.declared.Extent.the-variants as End
-use Rattle.blocks.specs.declared.Read.{Read}
 use Rattle.blocks.specs.declared.Read.the-variants as Got
 use Rattle.blocks.specs.declared.Written.{Written}
 use Rattle.blocks.specs.declared.Written.the-variants as Wrote
-use Rattle.blocks.specs.Extent.{within, listed, fitsIn, atLeast, routerInfo, i2np, firstFragment, followOn, pairsIn, address, takenAt, kindAt, sizeAt, ends, extentAt}
-use Rattle.blocks.specs.Reading.{bytesAt, blockAt, reading, readAt}
-use Rattle.blocks.specs.Writing.{kindOf, named, fieldBytes, fieldLength, carries, bytesOf, sizeOf, written, faulty, writing, stored, roomAfter}
+use Rattle.blocks.specs.Extent.{listed, fitsIn, atLeast, routerInfo, i2np, firstFragment, followOn, pairsIn, address, takenAt, kindAt, sizeAt, ends, extentAt}
+use Rattle.blocks.specs.Reading.{blockAt, reading, readAt}
+use Rattle.blocks.specs.Writing.{kindOf, named, fieldBytes, bytesOf, sizeOf, written, faulty, writing, stored, roomAfter}
 use Rattle.blocks.specs.Claims.{shown, ReadThenWrite}
 use Rattle.blocks.proofs.Ends.{bounded}
 use Rattle.blocks.proofs.Puts.{one-byte, is-length}
@@ -86,20 +83,9 @@ even-pairs z = go (eqb ((z - 5) % 2) 0) refl
 
 -- ---- bytes, read and put again
 
-bytes-take : (n : ℕ) (l : List ℕ) → Bytes l → Bytes (take n l)
-bytes-take zero l h i = omega arith
-bytes-take (suc n) [] h i = omega arith
-bytes-take (suc n) (x ∷ l) h zero = h zero
-bytes-take (suc n) (x ∷ l) h (suc i) = bytes-take n l (λ j. h (suc j)) i
-
 module _ (s : List ℕ) (bytes : Bytes s) where
-  bytes-part : (o n : ℕ) → Bytes (part s o n)
-  unfolding part
-  bytes-part o n = bytes-take n (drop o s) (λ i. subst (λ (x : ℕ). x < 256) (sym (getD-drop o s i 0)) (bytes (o + i)))
-
   again : (m o : ℕ) → o + m ≤ length s → bigBytes m (bigAt m s o) ≡ part s o m
-  unfolding bigAt
-  again m o h = ap (λ (k : ℕ). bigBytes k (big (part s o m))) (sym (length-part s o m h)) ∙ big-again (part s o m) (bytes-part o m)
+  again m o h = bigAt-again m s o h bytes
 
   one : (o : ℕ) → o < length s → getD s o 0 ∷ [] ≡ part s o 1
   one o h = sym (part-reads s o 0 0 (omega arith))
@@ -115,7 +101,7 @@ module _ (s : List ℕ) (bytes : Bytes s) where
 
 big-at : (s : List ℕ) → Bytes s → (o : ℕ) → o + 2 ≤ length s → bigAt 2 s o < 65536
 unfolding bigAt
-big-at s bytes o h = subst (λ (n : ℕ). big (part s o 2) < 256 ^ n) (length-part s o 2 h) (big-lt (part s o 2) (bytes-part s bytes o 2))
+big-at s bytes o h = subst (λ (n : ℕ). big (part s o 2) < 256 ^ n) (length-part s o 2 h) (big-lt (part s o 2) (bytes-part s o 2 bytes))
 
 -- number * 2 + last is the byte that they were read from
 follow-byte : (v : ℕ) → v < 256 → bigBytes 1 (v / 2 * 2 + cond (eqb (v % 2) 1) 1 0) ≡ v ∷ []

@@ -15,7 +15,7 @@ use Rattle.blocks.specs.declared.Entry.{Entry}
 use Rattle.blocks.specs.declared.Step.{Step}
 use Rattle.blocks.specs.declared.Answer.{Answer}
 use Rattle.blocks.specs.Extent.{extentAt}
-use Rattle.blocks.specs.Listing.{Listing, ok, no, entry, cons, onward, blocksFrom, blocksOf, limited, listing, counts, refusal, answerOf, filled, refusalOf, stepOf, stepAt, entriesFrom}
+use Rattle.blocks.specs.Listing.{Listing, ok, no, entry, cons, onward, blocksFrom, blocksOf, limited, listing, counts, refusal, answerOf, filled, stepOf, stepAt, entriesFrom}
 use Rattle.blocks.proofs.Ends.{bounded}
 
 -- the one thing

@@ -1,31 +1,26 @@
 -- Writing then reading any block that the writer takes gives that block. Assumes nothing.
-use mathlib.Core.Path.{_≡_, refl, sym, ap, _∙_, subst}
+use mathlib.Core.Path.{_≡_, refl, sym, ap, _∙_}
 use mathlib.Core.Bool.{Bool, true, false, cond, not, _||_, false≢true}
 use mathlib.Core.List.{List, [], _∷_, _++_, append-assoc}
-use mathlib.Core.Logic.{_⊎_, inl, inr}
 use Prim.Native.Nat.{ℕ, suc, _+_, _-_, _*_, _/_, _%_, _^_, _<_, _≤_}
 use native.Mathlib.Omega.{arith}
-use lib.Dec.{ltb, leb, eqb}
+use lib.Dec.{ltb, eqb}
 use lib.ListN.{length, take, drop, getD, length-append}
 use lib.Seq.{take-at, drop-at, getD-append-add}
-use borrow.Author.Tests.{ltb-false, leb-true, eqb-true, eqb-false, le-leb, lt-leb, le-ltb, lt-ltb, eq-eqb, ne-eqb}
+use borrow.Author.Tests.{ltb-false, eqb-true, eqb-false, le-leb, lt-leb, le-ltb, eq-eqb, ne-eqb}
 use Rattle.wire.specs.Parts.{part, splice}
 use Rattle.wire.specs.Numbers.{big, bigBytes, bigAt}
 use Rattle.wire.proofs.Parts.{length-splice, part-right}
 use Rattle.wire.proofs.Numbers.{length-big, big-back}
 use Rattle.blocks.specs.declared.Block.{Block}
 use Rattle.blocks.specs.declared.Block.the-variants as Body
-use Rattle.blocks.specs.declared.Taken.{Taken}
 use Rattle.blocks.specs.declared.Taken.the-variants as Take
-use Rattle.blocks.specs.declared.Extent.{Extent}
 use Rattle.blocks.specs.declared.Extent.the-variants as End
-use Rattle.blocks.specs.declared.Read.{Read}
 use Rattle.blocks.specs.declared.Read.the-variants as Got
-use Rattle.blocks.specs.declared.Written.{Written}
 use Rattle.blocks.specs.declared.Written.the-variants as Wrote
-use Rattle.blocks.specs.Extent.{listed, fitsIn, atLeast, routerInfo, i2np, firstFragment, followOn, pairsIn, address, takenAt, kindAt, sizeAt, ends, extentAt}
+use Rattle.blocks.specs.Extent.{listed, routerInfo, i2np, firstFragment, followOn, pairsIn, address, takenAt, kindAt, sizeAt, extentAt}
 use Rattle.blocks.specs.Reading.{bytesAt, blockAt, reading, readAt}
-use Rattle.blocks.specs.Writing.{kindOf, named, fieldBytes, fieldLength, carries, bytesOf, sizeOf, written, faulty, writing, stored, roomAfter}
+use Rattle.blocks.specs.Writing.{kindOf, named, fieldBytes, fieldLength, bytesOf, sizeOf, written, faulty, writing, roomAfter}
 use Rattle.blocks.specs.Claims.{Fitting, placed, WriteThenRead}
 use Rattle.blocks.proofs.Ends.{ended}
 use Rattle.blocks.proofs.Puts.{fields-length, one-byte}

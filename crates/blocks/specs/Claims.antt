@@ -1,14 +1,12 @@
 -- What is shown of reading, writing and listing together.
 use mathlib.Core.Path.{_≡_}
-use mathlib.Core.Bool.{cond}
 use mathlib.Core.List.{List, [], _∷_}
 use Prim.Native.Nat.{ℕ, _+_, _-_, _^_, _<_, _≤_}
-use lib.ListN.{length, getD}
+use lib.ListN.{length}
 use Rattle.wire.specs.Parts.{part, splice}
-use Rattle.blocks.specs.declared.Part.{Part}
+use Rattle.wire.specs.Numbers.{Bytes}
 use Rattle.blocks.specs.declared.Block.{Block}
 use Rattle.blocks.specs.declared.Block.the-variants as Body
-use Rattle.blocks.specs.declared.Read.{Read}
 use Rattle.blocks.specs.declared.Read.the-variants as Got
 use Rattle.blocks.specs.declared.Written.the-variants as Wrote
 use Rattle.blocks.specs.declared.Entry.{Entry}
@@ -75,7 +73,7 @@ shown s b = part s (partOf b .start) (partOf b .len)
 abbrev pub ReadThenWrite : Type 0
 ReadThenWrite =
     (s room : List ℕ) (at z next : ℕ) (b : Block)
-    → ((i : ℕ) → getD s i 0 < 256)
+    → Bytes s
     → readAt s at ≡ Got.Block b z next
     → z ≡ sizeOf b (shown s b)
     → next - at ≤ length room

@@ -1,4 +1,4 @@
-use mathlib.Core.Path.{_≡_, refl, sym, ap, _∙_}
+use mathlib.Core.Path.{refl}
 use Rattle.blocks.specs.Extent.{listed}
 use Rattle.blocks.proofs.extents.is_listed.Statement.{statement}
 use Rattle.blocks.proofs.extents.is_listed.Tie as tie

@@ -1,5 +1,5 @@
 use mathlib.Core.Path.{refl}
-use mathlib.Core.List.{List, [], _∷_, _++_}
+use mathlib.Core.List.{[], _∷_}
 use native.Mathlib.Omega.{arith}
 use Rattle.wire.proofs.Numbers.{length-big}
 use Rattle.wire.specs.Numbers.{bigBytes}

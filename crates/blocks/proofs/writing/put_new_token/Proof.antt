@@ -1,5 +1,4 @@
 use mathlib.Core.Path.{refl}
-use mathlib.Core.List.{List, [], _∷_, _++_}
 use native.Mathlib.Omega.{arith}
 use Rattle.wire.proofs.Numbers.{length-big}
 use Rattle.wire.specs.Numbers.{bigBytes}

@@ -1,10 +1,10 @@
-use mathlib.Core.Path.{_≡_, refl, sym, ap, _∙_, subst}
-use mathlib.Core.List.{List, [], _∷_, _++_}
+use mathlib.Core.Path.{refl, ap, _∙_}
+use mathlib.Core.List.{[], _∷_, _++_}
 use native.Mathlib.Omega.{arith}
 use Rattle.wire.proofs.Numbers.{length-big}
 use Rattle.wire.specs.Numbers.{bigBytes}
 use Rattle.wire.specs.Parts.{splice}
-use lib.ListN.{length, length-append}
+use lib.ListN.{length-append}
 use Rattle.blocks.proofs.Puts.{puts, join-five}
 use borrow.Author.Needs.{needs}
 use Rattle.blocks.proofs.writing.put_options.Statement.{statement}

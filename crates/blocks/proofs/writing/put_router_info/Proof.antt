@@ -1,5 +1,5 @@
 use Rattle.wire.proofs.Parts.{stores-splice}
-use mathlib.Core.List.{List, [], _∷_, _++_}
+use mathlib.Core.List.{[], _∷_}
 use native.Mathlib.Omega.{arith}
 use borrow.Author.Needs.{needs}
 use Rattle.blocks.proofs.writing.put_router_info.Statement.{statement}
