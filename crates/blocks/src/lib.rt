@@ -1,5 +1,6 @@
 // SSU2 blocks: their bodies as values, and reading, listing and writing them.
 pub mod extents;
+mod fields;
 pub mod listing;
 pub mod reading;
 pub mod writing;

@@ -6,8 +6,8 @@ use Rattle.wire.proofs.Numbers.{length-big}
 use Rattle.wire.specs.Numbers.{bigBytes}
 use Rattle.blocks.proofs.Puts.{puts}
 use borrow.Author.Needs.{needs}
-use Rattle.blocks.proofs.writing.put_words4.Statement.{statement}
-use Rattle.blocks.proofs.writing.put_words4.Tie as tie
+use Rattle.blocks.proofs.fields.put_words4.Statement.{statement}
+use Rattle.blocks.proofs.fields.put_words4.Tie as tie
 
 put-u16-requires : tie.Need-put-u16-requires
 put-u16-requires c κs = search needs

@@ -2,8 +2,8 @@ use Rattle.wire.proofs.Parts.{stores-splice}
 use mathlib.Core.List.{[], _∷_}
 use native.Mathlib.Omega.{arith}
 use borrow.Author.Needs.{needs}
-use Rattle.blocks.proofs.writing.put_router_info.Statement.{statement}
-use Rattle.blocks.proofs.writing.put_router_info.Tie as tie
+use Rattle.blocks.proofs.fields.put_router_info.Statement.{statement}
+use Rattle.blocks.proofs.fields.put_router_info.Tie as tie
 
 slice-write-room : tie.Need-slice-write-room
 slice-write-room c = search needs

@@ -5,8 +5,8 @@ use Rattle.wire.proofs.Numbers.{length-big}
 use Rattle.wire.specs.Numbers.{bigBytes}
 use Rattle.blocks.proofs.Puts.{puts}
 use borrow.Author.Needs.{needs}
-use Rattle.blocks.proofs.writing.put_termination.Statement.{statement}
-use Rattle.blocks.proofs.writing.put_termination.Tie as tie
+use Rattle.blocks.proofs.fields.put_termination.Statement.{statement}
+use Rattle.blocks.proofs.fields.put_termination.Tie as tie
 
 put-u64-requires : tie.Need-put-u64-requires
 put-u64-requires c κs = search needs

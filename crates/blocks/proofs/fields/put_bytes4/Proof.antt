@@ -3,8 +3,8 @@ use mathlib.Core.List.{[], _∷_}
 use native.Mathlib.Omega.{arith}
 use lib.ListN.{length-set}
 use borrow.Author.Needs.{needs}
-use Rattle.blocks.proofs.writing.put_bytes4.Statement.{statement}
-use Rattle.blocks.proofs.writing.put_bytes4.Tie as tie
+use Rattle.blocks.proofs.fields.put_bytes4.Statement.{statement}
+use Rattle.blocks.proofs.fields.put_bytes4.Tie as tie
 
 slice-write-room : tie.Need-slice-write-room
 slice-write-room c = search needs

@@ -6,8 +6,8 @@ use Rattle.wire.specs.Parts.{splice}
 use Rattle.blocks.specs.Writing.{fieldLength, fieldBytes}
 use Rattle.blocks.proofs.Puts.{puts-none}
 use borrow.Author.Needs.{needs}
-use Rattle.blocks.proofs.writing.put_fields.Statement.{statement}
-use Rattle.blocks.proofs.writing.put_fields.Tie as tie
+use Rattle.blocks.proofs.fields.put_fields.Statement.{statement}
+use Rattle.blocks.proofs.fields.put_fields.Tie as tie
 
 enum-known-block : tie.Need-enum-known-block
 enum-known-block c = search needs

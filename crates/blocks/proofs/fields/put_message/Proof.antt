@@ -5,8 +5,8 @@ use Rattle.wire.proofs.Numbers.{length-big}
 use Rattle.wire.specs.Numbers.{bigBytes}
 use Rattle.blocks.proofs.Puts.{puts}
 use borrow.Author.Needs.{needs}
-use Rattle.blocks.proofs.writing.put_message.Statement.{statement}
-use Rattle.blocks.proofs.writing.put_message.Tie as tie
+use Rattle.blocks.proofs.fields.put_message.Statement.{statement}
+use Rattle.blocks.proofs.fields.put_message.Tie as tie
 
 put-u8-requires : tie.Need-put-u8-requires
 put-u8-requires c κs = search needs

@@ -8,8 +8,8 @@ use Rattle.wire.specs.Numbers.{bigBytes}
 use Rattle.wire.specs.Parts.{splice}
 use Rattle.blocks.proofs.Puts.{puts, one-byte}
 use borrow.Author.Needs.{needs}
-use Rattle.blocks.proofs.writing.put_follow_on.Statement.{statement}
-use Rattle.blocks.proofs.writing.put_follow_on.Tie as tie
+use Rattle.blocks.proofs.fields.put_follow_on.Statement.{statement}
+use Rattle.blocks.proofs.fields.put_follow_on.Tie as tie
 
 wide-requires : tie.Need-wide-requires
 wide-requires c κs = search needs

@@ -7,8 +7,8 @@ use Rattle.wire.specs.Parts.{splice}
 use lib.ListN.{length-append}
 use Rattle.blocks.proofs.Puts.{puts, join-five}
 use borrow.Author.Needs.{needs}
-use Rattle.blocks.proofs.writing.put_options.Statement.{statement}
-use Rattle.blocks.proofs.writing.put_options.Tie as tie
+use Rattle.blocks.proofs.fields.put_options.Statement.{statement}
+use Rattle.blocks.proofs.fields.put_options.Tie as tie
 
 put-bytes4-requires : tie.Need-put-bytes4-requires
 put-bytes4-requires c κs = search needs

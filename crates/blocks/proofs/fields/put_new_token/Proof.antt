@@ -4,8 +4,8 @@ use Rattle.wire.proofs.Numbers.{length-big}
 use Rattle.wire.specs.Numbers.{bigBytes}
 use Rattle.blocks.proofs.Puts.{puts}
 use borrow.Author.Needs.{needs}
-use Rattle.blocks.proofs.writing.put_new_token.Statement.{statement}
-use Rattle.blocks.proofs.writing.put_new_token.Tie as tie
+use Rattle.blocks.proofs.fields.put_new_token.Statement.{statement}
+use Rattle.blocks.proofs.fields.put_new_token.Tie as tie
 
 put-u32-requires : tie.Need-put-u32-requires
 put-u32-requires c κs = search needs
