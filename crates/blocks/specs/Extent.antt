@@ -1,0 +1,125 @@
+-- Where a block ends: how many bytes its body takes, or the number of the refusal, by type.
+use mathlib.Core.Bool.{Bool, cond, _&&_, _||_}
+use mathlib.Core.List.{List}
+use Prim.Native.Nat.{ℕ, _+_, _-_, _%_}
+use lib.Dec.{ltb, leb, eqb}
+use lib.ListN.{length, getD}
+use Rattle.wire.specs.Numbers.{bigAt}
+use Rattle.blocks.specs.declared.Taken.{Taken}
+use Rattle.blocks.specs.declared.Taken.the-variants as Take
+use Rattle.blocks.specs.declared.Extent.{Extent}
+use Rattle.blocks.specs.declared.Extent.the-variants as End
+
+-- a number between two, both included
+abbrev pub within : ℕ → ℕ → ℕ → Bool
+within lo hi x = leb lo x && leb x hi
+
+-- the types of I2NP messages: 1 to 3, 10, 11 and 18 to 26
+unfoldable pub listed : ℕ → Bool
+listed t = (within 1 3 t || within 10 11 t) || within 18 26 t
+
+-- a body of so many bytes, if as many are left; else 1
+abbrev pub fitsIn : ℕ → ℕ → Taken
+fitsIn need left = cond (leb need left) (Take.Bytes need) (Take.Refused 1)
+
+-- size, but no less than the fields: what Options and Termination take
+abbrev pub atLeast : ℕ → ℕ → ℕ
+atLeast fields size = cond (leb fields size) size fields
+
+-- 2: a RouterInfo of no bytes
+unfoldable pub routerInfo : ℕ → ℕ → Taken
+routerInfo size left = cond (leb size 2) (Take.Refused 2) (fitsIn size left)
+
+-- 9 by the size, 1 for the fields, 3 by the message's type, 1 for the bytes
+unfoldable pub i2np : List ℕ → ℕ → ℕ → Taken
+i2np s body size =
+    cond (ltb size 9) (Take.Refused 9)
+    (cond (ltb (length s - body) 9) (Take.Refused 1)
+    (cond (listed (getD s body 0)) (fitsIn size (length s - body))
+    (Take.Refused 3)))
+
+-- 1 for the fields, 3 by the message's type, 4 for no bytes, 5 for missing ones
+unfoldable pub firstFragment : List ℕ → ℕ → ℕ → Taken
+firstFragment s body size =
+    cond (ltb (length s - body) 9) (Take.Refused 1)
+    (cond (listed (getD s body 0))
+    (cond (leb size 9) (Take.Refused 4)
+    (cond (ltb (length s - body) size) (Take.Refused 5)
+    (Take.Bytes size)))
+    (Take.Refused 3))
+
+-- 1 for the fields, 6 for no bytes, 7 for missing ones
+unfoldable pub followOn : ℕ → ℕ → Taken
+followOn size left =
+    cond (ltb left 5) (Take.Refused 1)
+    (cond (leb size 5) (Take.Refused 6)
+    (cond (ltb left size) (Take.Refused 7)
+    (Take.Bytes size)))
+
+-- an Ack's pairs: the bytes above five if they are even, else none
+unfoldable pub pairsIn : ℕ → ℕ
+pairsIn size = cond (eqb ((size - 5) % 2) 0) (size - 5) 0
+
+-- 1 for the port, 8 by the size, 1 for the IP
+unfoldable pub address : ℕ → ℕ → Taken
+address size left =
+    cond (ltb left 2) (Take.Refused 1)
+    (cond (eqb size 6) (fitsIn 6 left)
+    (cond (eqb size 18) (fitsIn 18 left)
+    (Take.Refused 8)))
+
+-- what the body at a place takes, where `left` bytes are left, by type; a type with no row takes size bytes
+unfoldable pub takenAt : List ℕ → ℕ → ℕ → ℕ → Taken
+takenAt s body kind size =
+    cond (eqb kind 0) (fitsIn 4 (length s - body))
+    (cond (eqb kind 1) (fitsIn (atLeast 12 size) (length s - body))
+    (cond (eqb kind 2) (routerInfo size (length s - body))
+    (cond (eqb kind 3) (i2np s body size)
+    (cond (eqb kind 4) (firstFragment s body size)
+    (cond (eqb kind 5) (followOn size (length s - body))
+    (cond (eqb kind 6) (fitsIn (atLeast 9 size) (length s - body))
+    (cond (eqb kind 12) (fitsIn (5 + pairsIn size) (length s - body))
+    (cond (eqb kind 13) (address size (length s - body))
+    (cond (eqb kind 15) (fitsIn 0 (length s - body))
+    (cond (eqb kind 16) (fitsIn 4 (length s - body))
+    (cond (eqb kind 17) (fitsIn 12 (length s - body))
+    (cond (eqb kind 20) (fitsIn 4 (length s - body))
+    (cond (eqb kind 21) (fitsIn 1 (length s - body))
+    (fitsIn size (length s - body)))))))))))))))
+
+-- the bytes of the fields that a body of a type begins with
+unfoldable pub fieldsOf : ℕ → ℕ
+fieldsOf kind =
+    cond (eqb kind 0) 4
+    (cond (eqb kind 1) 12
+    (cond (eqb kind 2) 2
+    (cond (eqb kind 3) 9
+    (cond (eqb kind 4) 9
+    (cond (eqb kind 5) 5
+    (cond (eqb kind 6) 9
+    (cond (eqb kind 12) 5
+    (cond (eqb kind 13) 2
+    (cond (eqb kind 15) 0
+    (cond (eqb kind 16) 4
+    (cond (eqb kind 17) 12
+    (cond (eqb kind 20) 4
+    (cond (eqb kind 21) 1
+    0)))))))))))))
+
+abbrev pub kindAt : List ℕ → ℕ → ℕ
+kindAt s at = getD s at 0
+
+abbrev pub sizeAt : List ℕ → ℕ → ℕ
+sizeAt s at = bigAt 2 s (at + 1)
+
+-- a block that takes n bytes of body ends after them; a refusal's place is the block's type byte
+abbrev pub ends : ℕ → ℕ → ℕ → Taken → Extent
+ends at kind size (Take.Bytes n) = End.Ends kind size (at + 3 + n)
+ends at kind size (Take.Refused m) = End.Refused m at
+
+-- the block at a place: its type, its size field and where it ends; 1 where its head is cut short
+unfoldable pub extentAt : List ℕ → ℕ → Extent
+extentAt s at =
+    cond (leb (at + 3) (length s))
+    (ends at (kindAt s at) (sizeAt s at) (takenAt s (at + 3) (kindAt s at) (sizeAt s at)))
+    (End.Refused 1 at)

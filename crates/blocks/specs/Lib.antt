@@ -1,0 +1,7 @@
+-- What the contracts of `blocks` cite.
+pub mod Extent
+pub mod Reading
+pub mod Listing
+pub mod Writing
+pub mod Claims
+pub mod Cases

@@ -1,0 +1,80 @@
+-- The listing of a payload: a record for each block, or the refusal.
+use mathlib.Core.Bool.{cond}
+use mathlib.Core.List.{List, [], _∷_, _++_}
+use Prim.Native.Nat.{ℕ, zero, suc}
+use lib.Dec.{ltb, leb}
+use lib.ListN.{length, getD, drop}
+use Rattle.blocks.specs.declared.Extent.{Extent}
+use Rattle.blocks.specs.declared.Extent.the-variants as End
+use Rattle.blocks.specs.declared.Entry.{Entry}
+use Rattle.blocks.specs.declared.Step.{Step}
+use Rattle.blocks.specs.declared.Answer.{Answer}
+use Rattle.blocks.specs.Extent.{extentAt}
+
+-- what a listing gives: its records, or a refusal's number and place
+pub data Listing : Type 0 where
+  ok : List Entry → Listing
+  no : ℕ → ℕ → Listing
+
+abbrev pub entry : ℕ → ℕ → ℕ → Entry
+entry at k z = record { place = at; kind = k; size = z }
+
+abbrev pub cons : Entry → Listing → Listing
+cons e (ok es) = ok (e ∷ es)
+cons e (no m p) = no m p
+
+-- a block that was read, then the rest from its end on, unless that is the payload's end; a refusal is the last word
+abbrev pub onward : List ℕ → ℕ → (ℕ → Listing) → Extent → Listing
+onward s at rest (End.Ends k z next) = cons (entry at k z) (cond (ltb next (length s)) (rest next) (ok []))
+onward s at rest (End.Refused m p) = no m p
+
+-- the blocks from a place on, up to the payload's end; every block has three bytes at least, so as many steps as bytes are left are enough
+unfoldable pub blocksFrom : ℕ → List ℕ → ℕ → Listing
+blocksFrom zero s at = no 1 at
+blocksFrom (suc steps) s at = onward s at (blocksFrom steps s) (extentAt s at)
+
+-- the blocks of a payload: one or more
+unfoldable pub blocksOf : List ℕ → Listing
+blocksOf s = blocksFrom (length s) s 0
+
+-- 10, at the first block without a record, where the list holds fewer
+abbrev pub limited : ℕ → Listing → Listing
+limited c (ok es) = cond (leb (length es) c) (ok es) (no 10 (getD es c (entry 0 0 0) .place))
+limited c (no m p) = no m p
+
+-- the listing of a payload into a list of so many records
+unfoldable pub listing : ℕ → List ℕ → Listing
+listing c s = limited c (blocksOf s)
+
+-- what is answered: of n blocks 0 and n, of a refusal its number and place
+abbrev pub counts : ℕ → Answer
+counts n = record { number = 0; place = 0; count = n }
+
+abbrev pub refusal : ℕ → ℕ → Answer
+refusal m p = record { number = m; place = p; count = 0 }
+
+abbrev pub answerOf : Listing → Answer
+answerOf (ok es) = counts (length es)
+answerOf (no m p) = refusal m p
+
+-- the list lent, once it is filled: records beyond the count stay, and all of them where it is refused
+abbrev pub filled : Listing → List Entry → List Entry
+filled (ok es) l = es ++ drop (length es) l
+filled (no m p) l = l
+
+abbrev pub refusalOf : Extent → Answer
+refusalOf (End.Refused m p) = refusal m p
+refusalOf (End.Ends k z next) = counts 0
+
+-- the record of the block at a place, and the place after it
+abbrev pub stepOf : ℕ → Extent → Step
+stepOf at (End.Ends k z next) = record { entry = entry at k z; next = next }
+stepOf at (End.Refused m p) = record { entry = entry p 0 0; next = p }
+
+abbrev pub stepAt : List ℕ → ℕ → Step
+stepAt s at = stepOf at (extentAt s at)
+
+-- the records of the k blocks from a place on, step by step
+abbrev pub entriesFrom : ℕ → List ℕ → ℕ → List Entry
+entriesFrom zero s at = []
+entriesFrom (suc k) s at = stepAt s at .entry ∷ entriesFrom k s (stepAt s at .next)
