@@ -1,5 +1,15 @@
-# make test: the format, then the whole gate. make list: a payload's blocks. make bench: both sides timed in one run.
-.PHONY: test bench
+# make list: the blocks of a payload. make test: the format, then the whole gate. make bench: both sides timed in one run.
+.PHONY: list test bench
+
+# a sample unless FILE names a payload
+FILE = crates/lister/stdin
+
+list:
+	@test -r "$(FILE)" || { echo "list: $(FILE) cannot be read"; exit 1; }
+	@echo "list: proving and building the lister (a minute from nothing)"
+	@mkdir -p target
+	@rt check lister >target/list.log 2>&1 || { cat target/list.log; exit 1; }
+	@tools/run lister <"$(FILE)"
 
 test:
 	rt fmt --check
