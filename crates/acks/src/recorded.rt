@@ -1,0 +1,1 @@
+// The tracker as bytes that a caller lends.
