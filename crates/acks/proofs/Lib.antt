@@ -8,3 +8,9 @@ pub mod Named
 pub mod Measuring
 pub mod Filling
 pub mod Answers
+pub mod Ring
+pub mod Tracks
+pub mod Counting
+pub mod Faithful
+pub mod Newest
+pub mod Cases
