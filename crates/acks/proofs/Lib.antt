@@ -14,3 +14,4 @@ pub mod Counting
 pub mod Faithful
 pub mod Newest
 pub mod Cases
+pub mod Recording
