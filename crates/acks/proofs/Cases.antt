@@ -1,7 +1,6 @@
 -- The marked cases that speak of acknowledgements, and the longest report, computed. Assumes nothing.
 use mathlib.Core.Path.{_≡_, refl}
-use mathlib.Core.List.{List, [], _∷_}
-use Prim.Native.Nat.{ℕ, zero, suc, _+_}
+use mathlib.Core.List.{[], _∷_}
 use Rattle.acks.specs.Window.{falling, inWindow}
 use Rattle.acks.specs.History.{answerTo}
 use Rattle.acks.specs.Tracking.{fresh, mark, held, clearUp, marksAfter, acceptOf, answerOf, registerOf, registerAll}

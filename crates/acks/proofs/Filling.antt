@@ -3,7 +3,7 @@ use mathlib.Core.Path.{_≡_, refl, sym, ap, _∙_}
 use mathlib.Core.List.{List, [], _∷_, _++_, append-assoc, append-nil}
 use Prim.Native.Nat.{ℕ, _+_, _-_, _≤_, _<_}
 use native.Mathlib.Omega.{arith}
-use lib.ListN.{length, drop, set, getD, length-append, length-set}
+use lib.ListN.{length, drop, set, getD, length-append}
 use Rattle.wire.specs.Parts.{splice}
 use Rattle.wire.proofs.Parts.{length-splice, splice-then, stores-splice}
 use Rattle.acks.specs.Window.{falling}

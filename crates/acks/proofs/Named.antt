@@ -1,11 +1,11 @@
 -- Laws of the numbers that an acknowledgement names. Assumes nothing.
-use mathlib.Core.Path.{_≡_, refl, sym, ap, _∙_}
+use mathlib.Core.Path.{_≡_, refl, ap, _∙_}
 use mathlib.Core.Bool.{Bool, true, false}
 use mathlib.Core.List.{List, [], _∷_, _++_}
 use Prim.Native.Nat.{ℕ, zero, suc, _+_, _-_, _≤_, _<_, _%_}
 use native.Mathlib.Omega.{arith}
 use native.Mathlib.Numerals.{add-one, add-two}
-use lib.ListN.{length, drop, take, getD, replicate, length-append, length-drop}
+use lib.ListN.{length, drop, getD, replicate, length-append, length-drop}
 use lib.Seq.{drop-cons}
 use Rattle.acks.specs.Window.{falling}
 use Rattle.acks.specs.Runs.{flags, named, whole, total}

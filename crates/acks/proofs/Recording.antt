@@ -1,15 +1,15 @@
 -- Laws of the tracker as lent bytes: what a call in place leaves is what the call by value returns. Assumes nothing.
-use mathlib.Core.Path.{_≡_, refl, sym, ap, _∙_}
+use mathlib.Core.Path.{_≡_, sym, ap, _∙_}
 use mathlib.Core.Bool.{true, false}
 use mathlib.Core.List.{List, _++_}
 use Prim.Native.Nat.{ℕ, _+_, _≤_, _<_, max}
 use native.Mathlib.Omega.{arith}
 use lib.ListN.{length, take, drop}
-use borrow.Author.Tests.{lt-ltb, le-ltb, ne-eqb, eq-eqb}
+use borrow.Author.Tests.{lt-ltb, le-ltb, ne-eqb}
 use borrow.Rule.Slice.PartMut.{putMid}
 use Rattle.wire.specs.Parts.{part, splice}
 use Rattle.wire.specs.Numbers.{little, littleAt, littleBytes}
-use Rattle.wire.proofs.Parts.{length-part, length-splice, part-add, part-after, splice-part, splice-then}
+use Rattle.wire.proofs.Parts.{length-part, part-add, part-after, splice-part, splice-then}
 use Rattle.wire.proofs.Numbers.{Bytes, little-again, length-little}
 use Rattle.wire.proofs.Lent.{lent-part}
 use Rattle.acks.specs.History.{answerTo}

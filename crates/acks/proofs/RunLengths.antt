@@ -1,12 +1,11 @@
 -- Laws of run lengths. Assumes nothing.
 use mathlib.Core.Path.{_≡_, refl, sym, ap, _∙_}
 use mathlib.Core.Bool.{Bool, true, false, not, Bool·beq, true≢false, false≢true}
-use mathlib.Core.List.{List, [], _∷_, _++_, map, append-assoc}
-use Prim.Native.Nat.{ℕ, zero, suc, _+_, _-_, _≤_, _<_, zero-le, suc-le-suc}
+use mathlib.Core.List.{List, [], _∷_, _++_, map}
+use Prim.Native.Nat.{ℕ, zero, suc, _+_, _-_, _≤_, _<_, suc-le-suc}
 use native.Mathlib.Omega.{arith}
-use native.Mathlib.Numerals.{add-one}
-use native.Mathlib.Nat.{suc-add, zero-add, suc-sub-suc}
-use lib.ListN.{replicate, length, drop, take, length-append, length-replicate, length-map}
+use native.Mathlib.Nat.{suc-add, zero-add}
+use lib.ListN.{length, drop}
 use Rattle.acks.specs.Runs.{inc, runs, flags, leading, rest}
 
 pub flags-inc : (b : Bool) (r : List ℕ) → flags b (inc r) ≡ b ∷ flags b r

@@ -1,10 +1,10 @@
 -- What the rules say of a tracker holds over every history of calls. Assumes nothing.
-use mathlib.Core.Path.{_≡_, refl, sym, ap, _∙_}
+use mathlib.Core.Path.{_≡_, sym, ap, _∙_}
 use mathlib.Core.List.{List}
 use Prim.Native.Nat.{ℕ}
-use Rattle.acks.specs.History.{among, received, highestOf, highestSeen, newest}
+use Rattle.acks.specs.History.{among, received, highestSeen, newest}
 use Rattle.acks.specs.Window.{window, keep}
-use Rattle.acks.specs.Tracking.{fresh, registerOf, registerAll}
+use Rattle.acks.specs.Tracking.{registerOf}
 use Rattle.acks.specs.Reporting.{reportOf}
 use Rattle.acks.proofs.Tracks.{Tracks, follows, held-is, answer-is}
 use Rattle.acks.proofs.Faithful.{report-is}

@@ -2,13 +2,11 @@
 use mathlib.Core.Path.{_≡_, refl, sym, ap, _∙_}
 use mathlib.Core.Bool.{false}
 use mathlib.Core.List.{List, [], _∷_}
-use Prim.Native.Nat.{ℕ, _≤_, _<_}
+use Prim.Native.Nat.{ℕ, _<_}
 use native.Mathlib.Omega.{arith}
 use lib.ListN.{length, replicate}
 use Rattle.acks.specs.Window.{window, falling, keep}
 use Rattle.acks.specs.History.{answerTo, highestOf, among, receive, noted, receivedAfter, received, highestSeen, newest}
-use Rattle.acks.specs.Reporting.{reportOf}
-use Rattle.acks.specs.declared.report.AckInfo.{AckInfo}
 use Rattle.acks.proofs.Faithful.{Faithful, faithful, unheard, expands}
 use Rattle.acks.proofs.Newest.{highest-among}
 use Rattle.promises.specs.Acks.{reportAfter}

@@ -1,9 +1,8 @@
-use Prim.Native.Nat.{ℕ, _≤_, _<_, _+_, _-_}
-use mathlib.Core.Path.{_≡_, refl, sym, ap, _∙_}
+use Prim.Native.Nat.{_≤_, _+_, _-_}
+use mathlib.Core.Path.{_≡_}
 use lib.ListN.{length, getD}
 use borrow.Author.Needs.{needs}
 use native.Mathlib.Omega.{arith}
-use Rattle.acks.specs.Runs.{total, whole}
 use Rattle.acks.proofs.Filling.{Wrote, wrote-start, wrote-step, wrote-end, spends, room-left}
 use Rattle.acks.proofs.expand.fill_pairs.Statement.{statement}
 use Rattle.acks.proofs.expand.fill_pairs.Tie as tie

@@ -1,7 +1,7 @@
 use native.Mathlib.Omega.{arith}
 use Prim.Native.Nat.{_%_}
-use mathlib.Core.Path.{_≡_, ap, _∙_}
-use lib.ListN.{length, set, length-set}
+use mathlib.Core.Path.{_∙_}
+use lib.ListN.{length-set}
 use Rattle.acks.specs.Tracking.{marksAfter}
 use borrow.Author.Needs.{needs}
 use Rattle.acks.proofs.marks.accept.Statement.{statement}

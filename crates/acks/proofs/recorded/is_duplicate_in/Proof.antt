@@ -1,7 +1,7 @@
 use native.Mathlib.Omega.{arith}
 use mathlib.Core.Path.{_≡_, sym, ap, _∙_}
 use mathlib.Core.Bool.{true, false}
-use lib.ListN.{length, take, drop}
+use lib.ListN.{take, drop}
 use Rattle.wire.specs.Parts.{part}
 use Rattle.wire.specs.Numbers.{littleAt}
 use Rattle.acks.specs.Tracking.{held}

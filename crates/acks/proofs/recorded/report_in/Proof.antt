@@ -1,8 +1,7 @@
 use native.Mathlib.Omega.{arith}
-use mathlib.Core.Path.{_≡_, sym, ap, _∙_}
+use mathlib.Core.Path.{ap, _∙_}
 use lib.ListN.{take, drop}
 use Rattle.wire.specs.Parts.{part}
-use Rattle.wire.specs.Numbers.{littleAt}
 use Rattle.acks.specs.Tracking.{mark}
 use Rattle.acks.specs.Reporting.{reportOf, ackInfo}
 use Rattle.acks.specs.Recorded.{trackerAt, reportThere}

@@ -1,14 +1,14 @@
-use Prim.Native.Nat.{ℕ, _≤_, _<_, _+_, _-_}
+use Prim.Native.Nat.{_≤_, _<_, _+_, _-_}
 use mathlib.Core.Path.{_≡_, refl, sym, ap, _∙_}
 use mathlib.Core.Bool.{true, false}
 use mathlib.Core.List.{[], append-nil}
 use lib.ListN.{length}
 use borrow.Author.Needs.{needs}
 use native.Mathlib.Omega.{arith}
-use Rattle.acks.specs.Runs.{leading, rest}
+use Rattle.acks.specs.Runs.{rest}
 use Rattle.acks.specs.Reporting.{view, filled}
 use Rattle.acks.proofs.View.{view-none}
-use Rattle.acks.proofs.Pairs.{Sofar, Turn, turn, sofar, room, from, leading-view-le}
+use Rattle.acks.proofs.Pairs.{Sofar, Turn, turn, sofar, room, leading-view-le}
 use Rattle.acks.proofs.runs.pairs.Statement.{statement}
 use Rattle.acks.proofs.runs.pairs.Tie as tie
 
