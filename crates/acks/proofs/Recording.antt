@@ -2,20 +2,24 @@
 use mathlib.Core.Path.{_≡_, sym, ap, _∙_}
 use mathlib.Core.Bool.{true, false}
 use mathlib.Core.List.{List, _++_}
-use Prim.Native.Nat.{ℕ, _+_, _≤_, _<_, max}
+use Prim.Native.Nat.{ℕ, _+_, _^_, _≤_, _<_, max}
 use native.Mathlib.Omega.{arith}
-use lib.ListN.{length, take, drop}
+use lib.ListN.{length, take, drop, length-append}
 use borrow.Author.Tests.{lt-ltb, le-ltb, ne-eqb}
 use borrow.Rule.Slice.PartMut.{putMid}
 use Rattle.wire.specs.Parts.{part, splice}
 use Rattle.wire.specs.Numbers.{little, littleAt, littleBytes}
-use Rattle.wire.proofs.Parts.{length-part, part-add, part-after, splice-part, splice-then}
-use Rattle.wire.proofs.Numbers.{Bytes, little-again, length-little}
+use Rattle.wire.proofs.Parts.{length-part, part-all, part-left, part-right, part-within, part-add, part-after, splice-part, splice-then}
+use Rattle.wire.proofs.Numbers.{Bytes, little-again, little-back, length-little}
 use Rattle.wire.proofs.Lent.{lent-part}
+use Rattle.acks.specs.declared.tracker.Tracker.{Tracker}
 use Rattle.acks.specs.History.{answerTo}
 use Rattle.acks.specs.Tracking.{held, marksAfter, acceptOf, answerOf, registerOf}
 use Rattle.acks.specs.Recorded.{short, trackerAt, bytesOf, registerThere, recordAfter}
 use Rattle.acks.proofs.Lists.{bytes-part}
+
+add-zero-of : (k n : ℕ) → n ≡ k → n + 0 ≡ k
+add-zero-of k n e = omega arith
 
 module _ (r : List ℕ) where
   pub is-short : length r < 259 → short r ≡ true
@@ -40,6 +44,24 @@ module _ (r : List ℕ) where
       ap (λ (l : List ℕ). splice r 0 (l ++ part r 4 255)) again
       ∙ ap (splice r 0) (sym (part-add r 0 4 255))
       ∙ splice-part r 0 259 long
+
+  -- a tracker's bytes, read as a tracker
+  pub read-back : (t : Tracker) → 259 ≤ length r → t .highest < 256 ^ 4 → length (t .marks) ≡ 255 → trackerAt (splice r 0 (bytesOf t)) ≡ t
+  unfolding trackerAt bytesOf littleAt
+  read-back t long small size =
+      let h : List ℕ = littleBytes 4 (t .highest) in
+      let four : length (littleBytes 4 (t .highest)) ≡ 4 = length-little 4 (t .highest) in
+      let all : length (littleBytes 4 (t .highest) ++ t .marks) ≡ 259 = length-append (littleBytes 4 (t .highest)) (t .marks) ∙ omega arith in
+      let front : part (splice r 0 (littleBytes 4 (t .highest) ++ t .marks)) 0 4 ≡ littleBytes 4 (t .highest) =
+      part-within r 0 (littleBytes 4 (t .highest) ++ t .marks) (omega arith) 0 4 (omega arith)
+      ∙ part-left (littleBytes 4 (t .highest)) (t .marks) 0 4 (omega arith)
+      ∙ part-all (littleBytes 4 (t .highest)) 4 (omega arith) in
+      let back : part (splice r 0 (littleBytes 4 (t .highest) ++ t .marks)) 4 255 ≡ t .marks =
+      part-within r 0 (littleBytes 4 (t .highest) ++ t .marks) (omega arith) 4 255 (omega arith)
+      ∙ ap (λ (k : ℕ). part (littleBytes 4 (t .highest) ++ t .marks) k 255) (sym (add-zero-of 4 (length (littleBytes 4 (t .highest))) four))
+      ∙ part-right (littleBytes 4 (t .highest)) (t .marks) 0 255
+      ∙ part-all (t .marks) 255 (omega arith) in
+      rw (front, back, little-back 4 (t .highest) small)
 
   module _ (top n : ℕ) (is-top : top ≡ littleAt 4 r 0) (long : 259 ≤ length r) where
     -- a refusal leaves every byte

@@ -13,7 +13,7 @@ use Rattle.acks.proofs.report.report_of.Tie as tie
 count-in : (c : tie.After-run) → c .run .result ≤ c .before .lesser .result
 count-in c =
     let a = c .before .before .before .before .before .args in
-    rw (c .run .ensures) (leading-view-le true (a .m .now) (a .top) (c .before .lesser .result))
+    rw (c .run .ensures) (leading-view-le _ (a .m .now) (a .top) (c .before .lesser .result))
 
 marked-requires : tie.Need-marked-requires
 marked-requires c κs = search needs
