@@ -15,3 +15,4 @@ pub mod Faithful
 pub mod Newest
 pub mod Cases
 pub mod Recording
+pub mod InPlace

@@ -1,9 +1,14 @@
 -- What a history of calls means: the numbers handed to `register`, the first call first. Asking changes nothing and is no part of it.
 use mathlib.Core.Bool.{Bool, false, cond, _||_}
 use mathlib.Core.List.{List, [], _∷_}
-use Prim.Native.Nat.{ℕ, _+_, max}
+use Prim.Native.Nat.{ℕ, _+_, _^_, _<_, max}
 use lib.Dec.{leb, ltb, eqb}
 use Rattle.acks.specs.Window.{window, keep}
+
+-- packet numbers: four bytes hold each
+abbrev pub Packets : List ℕ → Type 0
+Packets [] = Unit
+Packets (n ∷ calls) = (n < 256 ^ 4) × Packets calls
 
 -- the answer to number n, where top is the highest number seen and got says which were received
 unfoldable pub answerTo : ℕ → (ℕ → Bool) → ℕ → ℕ

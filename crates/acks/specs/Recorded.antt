@@ -1,6 +1,6 @@
 -- The tracker's record as bytes that a caller lends: the highest number in four, its low byte first, then the 255 marks.
 use mathlib.Core.Bool.{Bool, cond}
-use mathlib.Core.List.{List, [], _++_}
+use mathlib.Core.List.{List, [], _∷_, _++_}
 use Prim.Native.Nat.{ℕ}
 use lib.Dec.{ltb}
 use lib.ListN.{length}
@@ -30,6 +30,11 @@ registerThere r n = cond (short r) 59 (registerOf (trackerAt r) n .answer)
 -- and what it leaves: the tracker that the registration by value returns, and the bytes behind it as they were
 unfoldable pub recordAfter : List ℕ → ℕ → List ℕ
 recordAfter r n = cond (short r) r (splice r 0 (bytesOf (registerOf (trackerAt r) n .tracker)))
+
+-- a record after calls of register_in, the first call first
+unfoldable pub recordAll : List ℕ → List ℕ → List ℕ
+recordAll r [] = r
+recordAll r (n ∷ calls) = recordAll (recordAfter r n) calls
 
 -- whether number n is a duplicate there: 1 for yes, 0 for no
 unfoldable pub duplicateThere : List ℕ → ℕ → ℕ

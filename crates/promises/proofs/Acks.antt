@@ -6,10 +6,12 @@ use Rattle.acks.specs.History.{among, received, highestSeen, newest}
 use Rattle.acks.specs.Window.{window, keep}
 use Rattle.acks.specs.Tracking.{registerOf}
 use Rattle.acks.specs.Reporting.{reportOf}
+use Rattle.acks.specs.Recorded.{reportThere, registerThere}
 use Rattle.acks.proofs.Tracks.{Tracks, follows, held-is, answer-is}
 use Rattle.acks.proofs.Faithful.{report-is}
 use Rattle.acks.proofs.Newest.{same-report}
-use Rattle.promises.specs.Acks.{after, reportAfter, Answered, Duplicates, SameReport}
+use Rattle.acks.proofs.InPlace.{in-place, in-place-long}
+use Rattle.promises.specs.Acks.{after, reportAfter, Answered, Duplicates, SameReport, InPlace}
 
 -- the tracker after a history holds what was received
 pub tracked : (calls : List ℕ) → Tracks (highestSeen calls) (among (received calls)) (after calls)
@@ -35,3 +37,11 @@ same-reports a b kept high =
     ∙ same-report (highestSeen a) (among (received a)) (among (received b)) (kept ∙ top)
     ∙ ap (λ t. reportOf t (among (received b))) high
     ∙ sym (reported b)
+
+pub in-places : InPlace
+unfolding reportThere registerThere
+in-places calls p = (
+  in-place calls p,
+  rw (in-place-long calls p, in-place calls p),
+  λ n. rw (in-place-long calls p, in-place calls p),
+)

@@ -3,10 +3,12 @@ use mathlib.Core.Path.{_≡_}
 use mathlib.Core.Bool.{_&&_}
 use mathlib.Core.List.{List}
 use Prim.Native.Nat.{ℕ}
+use lib.ListN.{replicate}
 use Rattle.acks.specs.Window.{inWindow}
-use Rattle.acks.specs.History.{answerTo, among, received, highestSeen, newest}
+use Rattle.acks.specs.History.{Packets, answerTo, among, received, highestSeen, newest}
 use Rattle.acks.specs.Tracking.{fresh, held, registerOf, registerAll}
 use Rattle.acks.specs.Reporting.{ackInfo}
+use Rattle.acks.specs.Recorded.{trackerAt, registerThere, recordAll, reportThere}
 use Rattle.acks.specs.declared.tracker.Tracker.{Tracker}
 use Rattle.acks.specs.declared.report.AckInfo.{AckInfo}
 
@@ -30,3 +32,12 @@ Duplicates =
 -- two histories with the same received numbers in the window and the same highest report the same
 abbrev pub SameReport : Type 0
 SameReport = (a b : List ℕ) → newest a ≡ newest b → highestSeen a ≡ highestSeen b → reportAfter a ≡ reportAfter b
+
+-- the calls in place, from 259 zeros on, keep the record of that tracker; so they answer and report as it does
+abbrev pub InPlace : Type 0
+InPlace =
+    (calls : List ℕ)
+    → Packets calls
+    → (trackerAt (recordAll (replicate 259 0) calls) ≡ after calls)
+    × (reportThere (recordAll (replicate 259 0) calls) ≡ reportAfter calls)
+    × ((n : ℕ) → registerThere (recordAll (replicate 259 0) calls) n ≡ registerOf (after calls) n .answer)
