@@ -27,6 +27,8 @@ pub record Faithful (top : ℕ) (got : ℕ → Bool) (r : AckInfo) : Type 0 wher
   pub names-are : numbers (r .through) (r .count) (pairBytes r) ≡ keep got (window top)
   -- 1, the count and all numbers of the pairs add up to the window's size
   pub adds-up : r .count + total (whole (pairBytes r)) ≡ min top 254
+  pub even : length (pairBytes r) % 2 ≡ 0
+  pub few : length (pairBytes r) ≤ 254
 
 module _ (top : ℕ) (got : ℕ → Bool) (h : got top ≡ true) where
   abbrev below : List Bool
@@ -40,16 +42,28 @@ module _ (top : ℕ) (got : ℕ → Bool) (h : got top ≡ true) where
         number-is = refl;
         through-is = refl;
         names-are =
-            rw (front, whole-even ps even)
+            rw (front, whole-even ps pairs)
             (ap (λ l. named top (true ∷ l)) (ap (flags true) e ∙ flags-runs true below) ∙ all);
-        adds-up = rw (front, whole-even ps even) sum;
+        adds-up = rw (front, whole-even ps pairs) sum;
+        even = rw front pairs;
+        few = rw front (omega (arith, pairs, size));
       }
     where
       front : take (length ps) (ps ++ replicate (254 - length ps) 0) ≡ ps
       front = take-append-seam ps (replicate (254 - length ps) 0)
 
-      even : length ps % 2 ≡ 0
-      even = less (length ps) (ap (λ l. length l % 2) e ∙ runs-count true below .1)
+      size : suc (length ps) ≤ 256
+      size =
+          omega (
+            arith,
+            ap length e,
+            runs-short true below,
+            length-map (falling (top - 1) (min top 254)) got,
+            length-falling (top - 1) (min top 254),
+          )
+
+      pairs : length ps % 2 ≡ 0
+      pairs = less (length ps) (ap (λ l. length l % 2) e ∙ runs-count true below .1)
         where
           less : (n : ℕ) → suc n % 2 ≡ 1 → n % 2 ≡ 0
           less n q = omega arith

@@ -80,3 +80,6 @@ module _ (calls : List ℕ) (p : Packets calls) where
 
   pub in-place-long : short (recordAll (replicate 259 0) calls) ≡ false
   in-place-long = is-long (recordAll (replicate 259 0) calls) (held-all .room)
+
+  pub in-place-small : registerAll fresh calls .highest < 256 ^ 4
+  in-place-small = held-all .fits .small

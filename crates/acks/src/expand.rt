@@ -10,6 +10,7 @@ ghost use Rattle.acks.specs.Runs.{named, flags, whole, total};
 ghost use Rattle.acks.specs.Expanding.{numbers, expandOf, listAfter};
 
 // What an expansion answers: 44, 46, or 0 and how many numbers it named.
+#[repr(C)]
 pub struct Expanded {
     pub number: u32,
     pub count: usize,

@@ -8,6 +8,7 @@ use crate::runs;
 use crate::tracker::Tracker;
 
 // A report: 41 before any number, else 0 and what an Ack block says: the highest number, the count of received numbers directly below it, and len bytes of pairs.
+#[repr(C)]
 pub struct AckInfo {
     pub number: u32,
     pub through: u32,

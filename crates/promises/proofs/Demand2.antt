@@ -21,11 +21,14 @@ module _ (calls : List ℕ) where
   unfolding among
   before-any e = ap (λ l. among l top) e
 
+  pub report-faithful : 0 < length (received calls) → Faithful (highestSeen calls) (among (received calls)) (reportAfter calls)
+  unfolding highestSeen
+  report-faithful some = rw (reported calls) (faithful top (among (received calls)) (highest-among (received calls) some))
+
   acknowledges : 0 < length (received calls) → Acknowledges calls (reportAfter calls)
-  unfolding highestSeen newest
+  unfolding newest
   acknowledges some =
-      let f : Faithful top (among (received calls)) (reportAfter calls) =
-      rw (reported calls) (faithful top (among (received calls)) (highest-among (received calls) some)) in
+      let f = report-faithful some in
       record {
         given = f .number-is;
         highest = f .through-is;
