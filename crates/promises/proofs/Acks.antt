@@ -1,5 +1,6 @@
 -- What the rules say of a tracker holds over every history of calls. Assumes nothing.
 use mathlib.Core.Path.{_≡_, sym, ap, _∙_}
+use mathlib.Core.Bool.{_&&_}
 use mathlib.Core.List.{List}
 use Prim.Native.Nat.{ℕ}
 use Rattle.acks.specs.History.{among, received, highestSeen, newest}
@@ -9,9 +10,9 @@ use Rattle.acks.specs.Reporting.{reportOf}
 use Rattle.acks.specs.Recorded.{reportThere, registerThere}
 use Rattle.acks.proofs.Tracks.{Tracks, follows, held-is, answer-is}
 use Rattle.acks.proofs.Faithful.{report-is}
-use Rattle.acks.proofs.Newest.{same-report}
+use Rattle.acks.proofs.Newest.{same-report, in-window, among-keep}
 use Rattle.acks.proofs.InPlace.{in-place, in-place-long}
-use Rattle.promises.specs.Acks.{after, reportAfter, Answered, Duplicates, SameReport, InPlace}
+use Rattle.promises.specs.Acks.{after, reportAfter, Answered, Duplicates, DuplicatesAreNewest, SameReport, InPlace}
 
 -- the tracker after a history holds what was received
 pub tracked : (calls : List ℕ) → Tracks (highestSeen calls) (among (received calls)) (after calls)
@@ -24,6 +25,13 @@ answered calls n = answer-is (tracked calls) n
 
 pub duplicates : Duplicates
 duplicates calls n = held-is (tracked calls) n
+
+pub duplicates-are-newest : DuplicatesAreNewest
+unfolding newest
+duplicates-are-newest calls n =
+    duplicates calls n
+    ∙ ap (λ b. b && among (received calls) n) (sym (in-window (highestSeen calls) n))
+    ∙ sym (among-keep (among (received calls)) (window (highestSeen calls)) n)
 
 pub reported : (calls : List ℕ) → reportAfter calls ≡ reportOf (highestSeen calls) (among (received calls))
 reported calls = report-is (tracked calls)

@@ -29,6 +29,10 @@ abbrev pub Duplicates : Type 0
 Duplicates =
     (calls : List ℕ) (n : ℕ) → held (after calls .highest) (after calls .marks) n ≡ (inWindow (highestSeen calls) n && among (received calls) n)
 
+-- so the duplicates are exactly the received numbers of the window
+abbrev pub DuplicatesAreNewest : Type 0
+DuplicatesAreNewest = (calls : List ℕ) (n : ℕ) → held (after calls .highest) (after calls .marks) n ≡ among (newest calls) n
+
 -- two histories with the same received numbers in the window and the same highest report the same
 abbrev pub SameReport : Type 0
 SameReport = (a b : List ℕ) → newest a ≡ newest b → highestSeen a ≡ highestSeen b → reportAfter a ≡ reportAfter b
