@@ -12,7 +12,7 @@ use Rattle.acks.specs.declared.report.AckInfo.{AckInfo}
 use Rattle.acks.specs.Window.{falling, window, keep}
 use Rattle.acks.specs.Tracking.{mark}
 use Rattle.acks.specs.Runs.{runs, flags, named, whole, total}
-use Rattle.acks.specs.Reporting.{filled, silent, shown, reportOf, ackInfo, pairBytes}
+use Rattle.acks.specs.Reporting.{filled, refusal, silent, shown, reportOf, ackInfo, pairBytes}
 use Rattle.acks.specs.Expanding.{numbers, expandOf, listAfter}
 use Rattle.acks.proofs.RunLengths.{flags-runs}
 use Rattle.acks.proofs.Falling.{named-keep, length-falling, map-falling, window-size, length-keep}
@@ -111,7 +111,7 @@ expands top got r f list big =
 
 -- a report has at most 127 pairs, so that its 254 bytes hold them
 pub at-most-254 : (top : ℕ) (got : ℕ → Bool) → reportOf top got .len ≤ 254
-unfolding reportOf shown silent
+unfolding reportOf shown refusal
 at-most-254 top got = go (got top) (runs true (map got (falling (top - 1) (min top 254)))) size (runs-count true _ .1)
   where
     size : length (runs true (map got (falling (top - 1) (min top 254)))) ≤ 256

@@ -1,12 +1,12 @@
 -- Calls in place, one after another, keep the record of the tracker that the calls by value make. Assumes nothing.
-use mathlib.Core.Path.{_≡_, refl, sym, ap, _∙_}
+use mathlib.Core.Path.{_≡_, refl, _∙_}
 use mathlib.Core.Bool.{Bool, true, false, cond}
 use mathlib.Core.List.{List, [], _∷_, _++_}
-use Prim.Native.Nat.{ℕ, _+_, _-_, _%_, _^_, _≤_, _<_, max}
+use Prim.Native.Nat.{ℕ, _+_, _-_, _%_, _^_, _≤_, _<_}
 use native.Mathlib.Omega.{arith}
 use lib.Dec.{eqb}
 use lib.ListN.{length, set, replicate, length-set, length-append}
-use Rattle.wire.specs.Parts.{part, splice}
+use Rattle.wire.specs.Parts.{part}
 use Rattle.wire.specs.Numbers.{little, littleAt, littleBytes}
 use Rattle.wire.proofs.Parts.{length-splice}
 use Rattle.wire.proofs.Numbers.{length-little}

@@ -7,7 +7,7 @@ use lib.ListN.{length}
 use Rattle.wire.specs.Parts.{part, splice}
 use Rattle.wire.specs.Numbers.{littleAt, littleBytes}
 use Rattle.acks.specs.Tracking.{held, registerOf}
-use Rattle.acks.specs.Reporting.{filled, ackInfo}
+use Rattle.acks.specs.Reporting.{refusal, ackInfo}
 use Rattle.acks.specs.declared.tracker.Tracker.{Tracker}
 use Rattle.acks.specs.declared.report.AckInfo.{AckInfo}
 
@@ -42,4 +42,4 @@ duplicateThere r n = cond (short r) 59 (cond (held (trackerAt r .highest) (track
 
 -- what the tracker there reports
 unfoldable pub reportThere : List ℕ → AckInfo
-reportThere r = cond (short r) (record { number = 59; through = 0; count = 0; len = 0; pairs = filled [] }) (ackInfo (trackerAt r))
+reportThere r = cond (short r) (refusal 59) (ackInfo (trackerAt r))

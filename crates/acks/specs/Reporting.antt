@@ -17,9 +17,13 @@ view m n k = map (mark m) (falling (n - 1) k)
 unfoldable pub filled : List ℕ → List ℕ
 filled l = l ++ replicate (254 - length l) 0
 
--- the refusal before any number
-unfoldable pub silent : AckInfo
-silent = record { number = 41; through = 0; count = 0; len = 0; pairs = filled [] }
+-- a refused report: its number, and nothing else
+unfoldable pub refusal : ℕ → AckInfo
+refusal number = record { number = number; through = 0; count = 0; len = 0; pairs = filled [] }
+
+-- 41, before any number
+abbrev pub silent : AckInfo
+silent = refusal 41
 
 -- run lengths as a report: the first is the count of received numbers, the others are the pairs
 unfoldable pub shown : ℕ → List ℕ → AckInfo

@@ -4,7 +4,6 @@ ghost use Rattle.acks.specs.Recorded.{registerThere, recordAfter, duplic
 use crate::marks;
 use crate::report;
 use crate::report::AckInfo;
-use crate::runs;
 
 // Answers 59 where the record is short, else as a registration by value does.
 pub fn register_in(tracker: &mut [u8], n: u32) -> u32
@@ -42,13 +41,7 @@ pub fn report_in(tracker: &[u8]) -> AckInfo
     ensures { λ r. ⌜ r ≡ reportThere (now (tracker .entry)) ⌝ }
 {
     if tracker.len() < 259 {
-        return AckInfo {
-            number: 59,
-            through: 0,
-            count: 0,
-            len: 0,
-            pairs: runs::blank(),
-        };
+        return report::refused(59);
     }
     let top = wire::le_u32(tracker, 0);
     report::report_of(&tracker[4..259], top)

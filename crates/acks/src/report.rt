@@ -2,7 +2,7 @@
 ghost use mathlib.Core.Path.{_≡_};
 ghost use lib.ListN.{length};
 ghost use Rattle.acks.specs.Tracking.{mark};
-ghost use Rattle.acks.specs.Reporting.{reportOf, ackInfo};
+ghost use Rattle.acks.specs.Reporting.{refusal, reportOf, ackInfo};
 use crate::marks;
 use crate::runs;
 use crate::tracker::Tracker;
@@ -17,19 +17,25 @@ pub struct AckInfo {
     pub pairs: [u8; 254],
 }
 
+pub(crate) fn refused(number: u32) -> AckInfo
+    ensures { λ r. ⌜ r ≡ refusal number ⌝ }
+{
+    AckInfo {
+        number,
+        through: 0,
+        count: 0,
+        len: 0,
+        pairs: runs::blank(),
+    }
+}
+
 // What the marks of the window that ends at top report.
 pub(crate) fn report_of(m: &[u8], top: u32) -> AckInfo
     requires { ⌜ length (now m) ≡ 255 ⌝ }
     ensures { λ r. ⌜ r ≡ reportOf top (mark (now (m .entry))) ⌝ }
 {
     if !marks::marked(m, top) {
-        return AckInfo {
-            number: 41,
-            through: 0,
-            count: 0,
-            len: 0,
-            pairs: runs::blank(),
-        };
+        return refused(41);
     }
     let k = runs::lesser(top, 254);
     let count = runs::run(m, top, k, true);

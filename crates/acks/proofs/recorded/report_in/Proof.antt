@@ -10,12 +10,12 @@ use borrow.Author.Needs.{needs}
 use Rattle.acks.proofs.recorded.report_in.Statement.{statement}
 use Rattle.acks.proofs.recorded.report_in.Tie as tie
 
-blank-requires : tie.Need-blank-requires
-blank-requires c κs = search needs
+refused-requires : tie.Need-refused-requires
+refused-requires c κs = search needs
 
 returns : tie.Need-returns
 unfolding reportThere
-returns c = rw (is-short (c .before .before .before .args .tracker .now) (omega arith), c .blank .ensures)
+returns c = rw (is-short (c .before .before .before .args .tracker .now) (omega arith), c .refused .ensures)
 
 le-u32-requires : tie.Need-le-u32-requires
 le-u32-requires c κs = search needs
@@ -44,7 +44,7 @@ pub report-in-spec : {M : Type 1} → statement M
 report-in-spec =
     tie.close
     (tie.spec
-    blank-requires
+    refused-requires
     returns
     le-u32-requires
     sub-report-of

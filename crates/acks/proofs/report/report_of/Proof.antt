@@ -4,7 +4,7 @@ use mathlib.Core.Bool.{true, false}
 use Prim.Native.Nat.{_≤_}
 use borrow.Author.Tests.{not-true, not-false}
 use Rattle.acks.specs.Tracking.{mark}
-use Rattle.acks.specs.Reporting.{shown, silent}
+use Rattle.acks.specs.Reporting.{shown}
 use Rattle.acks.proofs.Pairs.{quiet, leading-view-le, after-count, reported}
 use borrow.Author.Needs.{needs}
 use Rattle.acks.proofs.report.report_of.Statement.{statement}
@@ -18,15 +18,14 @@ count-in c =
 marked-requires : tie.Need-marked-requires
 marked-requires c κs = search needs
 
-blank-requires : tie.Need-blank-requires
-blank-requires c κs = search needs
+refused-requires : tie.Need-refused-requires
+refused-requires c κs = search needs
 
 returns : tie.Need-returns
-unfolding silent
 returns c =
     let a = c .before .before .before .before .args in
     let e : mark (a .m .now) (a .top) ≡ false = sym (c .before .before .marked .ensures) ∙ not-true _ (c .before .if1 .taken) in
-    rw (c .blank .ensures) (sym (quiet (a .m .now) (a .top) e))
+    c .refused .ensures ∙ sym (quiet (a .m .now) (a .top) e)
 
 lesser-requires : tie.Need-lesser-requires
 lesser-requires c κs = search needs
@@ -49,8 +48,8 @@ pairs-requires c κs =
       after-count (a .m .now) (a .top) (c .before .lesser .result) (c .run .result) (c .run .ensures),
     )
 
-cast-t12 : tie.Need-cast-t12
-cast-t12 c = omega (arith, count-in (c .before .before))
+cast-t11 : tie.Need-cast-t11
+cast-t11 c = omega (arith, count-in (c .before .before))
 
 returns-2 : tie.Need-returns-2
 unfolding shown
@@ -68,12 +67,12 @@ report-of-spec =
     tie.close
     (tie.spec
     marked-requires
-    blank-requires
+    refused-requires
     returns
     lesser-requires
     run-requires
     sub-pairs
     sub-pairs-2
     pairs-requires
-    cast-t12
+    cast-t11
     returns-2)
