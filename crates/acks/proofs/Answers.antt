@@ -1,8 +1,10 @@
 -- What expanding answers, case by case. Assumes nothing.
-use mathlib.Core.Path.{_≡_}
+use mathlib.Core.Path.{_≡_, ap}
+use mathlib.Core.Bool.{Bool, cond}
 use mathlib.Core.List.{List}
 use Prim.Native.Nat.{ℕ, _+_, _≤_, _<_}
 use borrow.Author.Tests.{lt-ltb, le-ltb}
+use lib.Dec.{ltb}
 use lib.ListN.{length}
 use Rattle.wire.specs.Parts.{splice}
 use Rattle.acks.specs.Runs.{whole, total}
@@ -11,7 +13,8 @@ use Rattle.acks.specs.Expanding.{numbers, expandAnswer, expandOf, listAf
 module _ (through count : ℕ) (ps : List ℕ) where
   pub says-44 : (room : ℕ) → through < count + total (whole ps) → expandAnswer through count ps room ≡ 44
   unfolding expandAnswer
-  says-44 room h = rw (lt-ltb through (count + total (whole ps)) h)
+  says-44 room h =
+      ap (λ (b : Bool). cond b 44 (cond (ltb room (length (numbers through count ps))) 46 0)) (lt-ltb through (count + total (whole ps)) h)
 
   pub says-46 : (room : ℕ) → count + total (whole ps) ≤ through → room < length (numbers through count ps) → expandAnswer through count ps room ≡ 46
   unfolding expandAnswer

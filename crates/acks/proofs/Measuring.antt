@@ -31,10 +31,10 @@ summed-start through count ps h =
       bounded = omega arith;
     }
 
-pub summed-step : (through count : ℕ) (ps : List ℕ) (sum names i : ℕ) → Summed through count ps sum names i → i + 1 < length ps →
-    sum ≤ through → getD ps i 0 < 256 → getD ps (i + 1) 0 < 256 →
-    Summed through count ps (sum + getD ps i 0 + getD ps (i + 1) 0) (names + getD ps (i + 1) 0) (i + 2)
-summed-step through count ps sum names i s h l a b =
+pub summed-step : (through count : ℕ) (ps : List ℕ) (sum names i nack ack : ℕ) → Summed through count ps sum names i → i + 1 < length ps →
+    sum ≤ through → nack ≡ getD ps i 0 → nack < 256 → ack ≡ getD ps (i + 1) 0 → ack < 256 →
+    Summed through count ps (sum + nack + ack) (names + ack) (i + 2)
+summed-step through count ps sum names i nack ack s h l a p b q =
     record {
       sums = omega (arith, s .sums, total-step ps i h);
       names-are = omega (arith, s .names-are, lengths);

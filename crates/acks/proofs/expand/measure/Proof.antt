@@ -1,7 +1,7 @@
 use Prim.Native.Nat.{_<_, _+_, _-_}
-use mathlib.Core.Path.{_≡_, sym, ap}
+use mathlib.Core.Path.{sym, ap}
 use mathlib.Core.Bool.{true, false, false≢true}
-use lib.ListN.{length, getD}
+use lib.ListN.{length}
 use lib.Dec.{leb}
 use borrow.Author.Needs.{needs}
 use borrow.Author.Tests.{lt-leb}
@@ -72,10 +72,8 @@ loop-again : tie.Need-loop-again Inv-loop μ-loop
 loop-again c =
     let a = c .before .before .before .before .before .before .args in
     let i = c .before .before .before .before .loop in
-    let x : c .before .byte .result ≡ getD (a .pairs .now) (i .i) 0 = c .before .byte .ensures .0 in
-    let y : c .byte2 .result ≡ getD (a .pairs .now) (i .i + 1) 0 = c .byte2 .ensures .0 in
-    rw (x, y)
-    (summed-step (a .through) (a .count) (a .pairs .now) (i .sum) (i .names) (i .i) (i .inv) (omega arith) (omega arith) (omega arith) (omega arith))
+    summed-step (a .through) (a .count) (a .pairs .now) (i .sum) (i .names) (i .i) (c .before .byte .result) (c .byte2 .result) (i .inv) (omega arith)
+    (omega arith) (c .before .byte .ensures .0) (c .before .byte .ensures .1) (c .byte2 .ensures .0) (c .byte2 .ensures .1)
 
 returns-2 : tie.Need-returns-2 Inv-loop μ-loop
 returns-2 c =
