@@ -1,6 +1,4 @@
 use native.Mathlib.Omega.{arith}
-use Prim.Native.Nat.{_%_}
-use mathlib.Core.Path.{_∙_}
 use lib.ListN.{length-set}
 use Rattle.acks.specs.Tracking.{marksAfter}
 use borrow.Author.Needs.{needs}
@@ -29,16 +27,10 @@ cast-i : tie.Need-cast-i
 cast-i c = search needs
 
 slice-write-m-2 : tie.Need-slice-write-m-2
-slice-write-m-2 c =
-    let a = c .before .before .before .before .before .before .args in
-    omega (arith, c .before .before .clear .kept .0, length-set (a .m .now) (a .top % 255) 1)
+slice-write-m-2 c = omega (arith, simp length-set at (c .before .before .clear .kept .0))
 
 same-length : tie.Need-same-length
-same-length c =
-    let a = c .before .before .before .before .before .before .args in
-    length-set (c .before .before .clear .last .0) (a .n % 255) 1
-    ∙ c .before .before .clear .kept .0
-    ∙ length-set (a .m .now) (a .top % 255) 1
+same-length c = simp length-set (simp length-set at (c .before .before .clear .kept .0))
 
 returns : tie.Need-returns
 unfolding marksAfter
