@@ -1,0 +1,42 @@
+-- What expanding answers, case by case. Assumes nothing.
+use mathlib.Core.Path.{_≡_, ap}
+use mathlib.Core.Bool.{Bool, cond}
+use mathlib.Core.List.{List}
+use Prim.Native.Nat.{ℕ, _+_, _≤_, _<_}
+use borrow.Author.Tests.{lt-ltb, le-ltb}
+use lib.Dec.{ltb}
+use lib.ListN.{length}
+use Rattle.wire.specs.Parts.{splice}
+use Rattle.acks.specs.Runs.{whole, total}
+use Rattle.acks.specs.Expanding.{numbers, expandAnswer, expandOf, listAfter}
+
+module _ (through count : ℕ) (ps : List ℕ) where
+  pub says-44 : (room : ℕ) → through < count + total (whole ps) → expandAnswer through count ps room ≡ 44
+  unfolding expandAnswer
+  says-44 room h =
+      ap (λ (b : Bool). cond b 44 (cond (ltb room (length (numbers through count ps))) 46 0)) (lt-ltb through (count + total (whole ps)) h)
+
+  pub says-46 : (room : ℕ) → count + total (whole ps) ≤ through → room < length (numbers through count ps) → expandAnswer through count ps room ≡ 46
+  unfolding expandAnswer
+  says-46 room h g = rw (le-ltb through (count + total (whole ps)) h, lt-ltb room (length (numbers through count ps)) g)
+
+  pub says-0 : (room : ℕ) → count + total (whole ps) ≤ through → length (numbers through count ps) ≤ room → expandAnswer through count ps room ≡ 0
+  unfolding expandAnswer
+  says-0 room h g = rw (le-ltb through (count + total (whole ps)) h, le-ltb room (length (numbers through count ps)) g)
+
+  module _ (list : List ℕ) where
+    pub is-44 : through < count + total (whole ps) →
+        (record { number = 44; count = 0 } ≡ expandOf through count ps (length list)) × (list ≡ listAfter through count ps list)
+    unfolding expandOf listAfter
+    is-44 h = (rw (says-44 (length list) h), rw (says-44 (length list) h))
+
+    pub is-46 : count + total (whole ps) ≤ through → length list < length (numbers through count ps) →
+        (record { number = 46; count = 0 } ≡ expandOf through count ps (length list)) × (list ≡ listAfter through count ps list)
+    unfolding expandOf listAfter
+    is-46 h g = (rw (says-46 (length list) h g), rw (says-46 (length list) h g))
+
+    pub is-0 : count + total (whole ps) ≤ through → length (numbers through count ps) ≤ length list →
+        (record { number = 0; count = length (numbers through count ps) } ≡ expandOf through count ps (length list))
+        × (splice list 0 (numbers through count ps) ≡ listAfter through count ps list)
+    unfolding expandOf listAfter
+    is-0 h g = (rw (says-0 (length list) h g), rw (says-0 (length list) h g))

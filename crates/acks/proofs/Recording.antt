@@ -1,0 +1,87 @@
+-- Laws of the tracker as lent bytes: what a call in place leaves is what the call by value returns. Assumes nothing.
+use mathlib.Core.Path.{_≡_, sym, ap, _∙_}
+use mathlib.Core.Bool.{true, false}
+use mathlib.Core.List.{List, _++_}
+use Prim.Native.Nat.{ℕ, _+_, _^_, _≤_, _<_, max}
+use native.Mathlib.Omega.{arith}
+use lib.ListN.{length, take, drop, length-append}
+use borrow.Author.Tests.{lt-ltb, le-ltb, ne-eqb}
+use borrow.Rule.Slice.PartMut.{putMid}
+use Rattle.wire.specs.Parts.{part, splice}
+use Rattle.wire.specs.Numbers.{little, littleAt, littleBytes}
+use Rattle.wire.proofs.Parts.{length-part, part-all, part-left, part-right, part-within, part-add, part-after, splice-part, splice-then}
+use Rattle.wire.proofs.Numbers.{Bytes, little-again, little-back, length-little}
+use Rattle.wire.proofs.Lent.{lent-part}
+use Rattle.acks.specs.declared.tracker.Tracker.{Tracker}
+use Rattle.acks.specs.History.{answerTo}
+use Rattle.acks.specs.Tracking.{held, marksAfter, acceptOf, answerOf, registerOf}
+use Rattle.acks.specs.Recorded.{short, trackerAt, bytesOf, registerThere, recordAfter}
+use Rattle.acks.proofs.Lists.{bytes-part}
+
+add-zero-of : (k n : ℕ) → n ≡ k → n + 0 ≡ k
+add-zero-of k n e = omega arith
+
+module _ (r : List ℕ) where
+  pub is-short : length r < 259 → short r ≡ true
+  unfolding short
+  is-short h = lt-ltb (length r) 259 h
+
+  pub is-long : 259 ≤ length r → short r ≡ false
+  unfolding short
+  is-long h = le-ltb (length r) 259 h
+
+  pub short-refused : (n : ℕ) → length r < 259 → (59 ≡ registerThere r n) × (r ≡ recordAfter r n)
+  unfolding registerThere recordAfter
+  short-refused n h = (rw (is-short h), rw (is-short h))
+
+  -- bytes, read as a tracker and put back
+  put-back : 259 ≤ length r → Bytes r → splice r 0 (bytesOf (trackerAt r)) ≡ r
+  unfolding bytesOf trackerAt littleAt
+  put-back long bytes =
+      let four : length (part r 0 4) ≡ 4 = length-part r 0 4 (omega arith) in
+      let again : littleBytes 4 (little (part r 0 4)) ≡ part r 0 4 =
+      ap (λ (k : ℕ). littleBytes k (little (part r 0 4))) (sym four) ∙ little-again (part r 0 4) (bytes-part r 0 4 bytes) in
+      ap (λ (l : List ℕ). splice r 0 (l ++ part r 4 255)) again
+      ∙ ap (splice r 0) (sym (part-add r 0 4 255))
+      ∙ splice-part r 0 259 long
+
+  -- a tracker's bytes, read as a tracker
+  pub read-back : (t : Tracker) → 259 ≤ length r → t .highest < 256 ^ 4 → length (t .marks) ≡ 255 → trackerAt (splice r 0 (bytesOf t)) ≡ t
+  unfolding trackerAt bytesOf littleAt
+  read-back t long small size =
+      let h : List ℕ = littleBytes 4 (t .highest) in
+      let four : length (littleBytes 4 (t .highest)) ≡ 4 = length-little 4 (t .highest) in
+      let all : length (littleBytes 4 (t .highest) ++ t .marks) ≡ 259 = length-append (littleBytes 4 (t .highest)) (t .marks) ∙ omega arith in
+      let front : part (splice r 0 (littleBytes 4 (t .highest) ++ t .marks)) 0 4 ≡ littleBytes 4 (t .highest) =
+      part-within r 0 (littleBytes 4 (t .highest) ++ t .marks) (omega arith) 0 4 (omega arith)
+      ∙ part-left (littleBytes 4 (t .highest)) (t .marks) 0 4 (omega arith)
+      ∙ part-all (littleBytes 4 (t .highest)) 4 (omega arith) in
+      let back : part (splice r 0 (littleBytes 4 (t .highest) ++ t .marks)) 4 255 ≡ t .marks =
+      part-within r 0 (littleBytes 4 (t .highest) ++ t .marks) (omega arith) 4 255 (omega arith)
+      ∙ ap (λ (k : ℕ). part (littleBytes 4 (t .highest) ++ t .marks) k 255) (sym (add-zero-of 4 (length (littleBytes 4 (t .highest))) four))
+      ∙ part-right (littleBytes 4 (t .highest)) (t .marks) 0 255
+      ∙ part-all (t .marks) 255 (omega arith) in
+      rw (front, back, little-back 4 (t .highest) small)
+
+  module _ (top n : ℕ) (is-top : top ≡ littleAt 4 r 0) (long : 259 ≤ length r) where
+    -- a refusal leaves every byte
+    pub refused : (a : ℕ) → Bytes r → a ≡ answerTo top (held top (take 255 (drop 4 r))) n → (a ≡ 0 → ⊥) → (a ≡ registerThere r n) × (r ≡ recordAfter r n)
+    unfolding registerThere recordAfter registerOf answerOf trackerAt part
+    refused a bytes e ne =
+        let f : a ≡ answerTo (littleAt 4 r 0) (held (littleAt 4 r 0) (take 255 (drop 4 r))) n = e ∙ ap (λ t. answerTo t (held t (take 255 (drop 4 r))) n) is-top in
+        (rw (is-long long) f, rw (is-long long, sym f, ne-eqb a 0 ne) (sym (put-back long bytes)))
+
+    -- an accepted number: the highest was put, then the marks
+    pub registered : (r1 m : List ℕ) → 0 ≡ answerTo top (held top (take 255 (drop 4 r))) n → r1 ≡ splice r 0 (littleBytes 4 (max top n)) →
+        length m ≡ 255 → m ≡ marksAfter (take 255 (drop 4 r1)) top n → (0 ≡ registerThere r n) × (putMid 4 255 r1 m ≡ recordAfter r n)
+    unfolding registerThere recordAfter registerOf answerOf acceptOf trackerAt bytesOf part
+    registered r1 m e put size marks =
+        let f : 0 ≡ answerTo (littleAt 4 r 0) (held (littleAt 4 r 0) (take 255 (drop 4 r))) n = e ∙ ap (λ t. answerTo t (held t (take 255 (drop 4 r))) n) is-top in
+        let hi : length (littleBytes 4 (max top n)) ≡ 4 = length-little 4 (max top n) in
+        let four : 4 ≡ 0 + length (littleBytes 4 (max top n)) = omega arith in
+        let kept : take 255 (drop 4 r1) ≡ take 255 (drop 4 r) =
+        ap (λ (l : List ℕ). part l 4 255) put ∙ part-after r 0 (littleBytes 4 (max top n)) (omega arith) 4 255 (omega arith) in
+        let lent : putMid 4 255 r1 m ≡ splice r1 4 m = lent-part r1 4 259 m (omega arith) (omega arith) in
+        let whole : putMid 4 255 r1 m ≡ splice r 0 (littleBytes 4 (max top n) ++ m) =
+        splice-then r 0 (littleBytes 4 (max top n)) m (omega arith) put (lent ∙ ap (λ (k : ℕ). splice r1 k m) four) in
+        (rw (is-long long) f, rw (is-long long, sym f, ← is-top) (whole ∙ ap (λ (l : List ℕ). splice r 0 (littleBytes 4 (max top n) ++ l)) (marks ∙ ap (λ (l : List ℕ). marksAfter l top n) kept)))

@@ -1,0 +1,8 @@
+-- What the contracts of `acks` cite, in the words of the rules.
+pub mod Window
+pub mod History
+pub mod Tracking
+pub mod Runs
+pub mod Reporting
+pub mod Expanding
+pub mod Recorded

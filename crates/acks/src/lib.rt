@@ -1,0 +1,7 @@
+// Acknowledgements: which packet numbers came, and what to tell the sender. The Rust's `ack.rs`.
+pub mod expand;
+mod marks;
+pub mod recorded;
+pub mod report;
+mod runs;
+pub mod tracker;

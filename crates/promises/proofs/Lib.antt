@@ -1,0 +1,3 @@
+-- The demands, proved.
+pub mod Acks
+pub mod Demand2

@@ -1,0 +1,47 @@
+-- What the rules say of a tracker, over every history of calls: `calls` are the numbers handed to `register`, the first call first.
+use mathlib.Core.Path.{_≡_}
+use mathlib.Core.Bool.{_&&_}
+use mathlib.Core.List.{List}
+use Prim.Native.Nat.{ℕ}
+use lib.ListN.{replicate}
+use Rattle.acks.specs.Window.{inWindow}
+use Rattle.acks.specs.History.{Packets, answerTo, among, received, highestSeen, newest}
+use Rattle.acks.specs.Tracking.{fresh, held, registerOf, registerAll}
+use Rattle.acks.specs.Reporting.{ackInfo}
+use Rattle.acks.specs.Recorded.{trackerAt, registerThere, recordAll, reportThere}
+use Rattle.acks.specs.declared.tracker.Tracker.{Tracker}
+use Rattle.acks.specs.declared.report.AckInfo.{AckInfo}
+
+-- the tracker after a history of calls
+abbrev pub after : List ℕ → Tracker
+after calls = registerAll fresh calls
+
+-- its report
+abbrev pub reportAfter : List ℕ → AckInfo
+reportAfter calls = ackInfo (after calls)
+
+-- a registration answers 40, 42, 43 or 0 by what was seen and received before it
+abbrev pub Answered : Type 0
+Answered = (calls : List ℕ) (n : ℕ) → registerOf (after calls) n .answer ≡ answerTo (highestSeen calls) (among (received calls)) n
+
+-- a number is a duplicate exactly if it is in the window and received
+abbrev pub Duplicates : Type 0
+Duplicates =
+    (calls : List ℕ) (n : ℕ) → held (after calls .highest) (after calls .marks) n ≡ (inWindow (highestSeen calls) n && among (received calls) n)
+
+-- so the duplicates are exactly the received numbers of the window
+abbrev pub DuplicatesAreNewest : Type 0
+DuplicatesAreNewest = (calls : List ℕ) (n : ℕ) → held (after calls .highest) (after calls .marks) n ≡ among (newest calls) n
+
+-- two histories with the same received numbers in the window and the same highest report the same
+abbrev pub SameReport : Type 0
+SameReport = (a b : List ℕ) → newest a ≡ newest b → highestSeen a ≡ highestSeen b → reportAfter a ≡ reportAfter b
+
+-- the calls in place, from 259 zeros on, keep the record of that tracker; so they answer and report as it does
+abbrev pub InPlace : Type 0
+InPlace =
+    (calls : List ℕ)
+    → Packets calls
+    → (trackerAt (recordAll (replicate 259 0) calls) ≡ after calls)
+    × (reportThere (recordAll (replicate 259 0) calls) ≡ reportAfter calls)
+    × ((n : ℕ) → registerThere (recordAll (replicate 259 0) calls) n ≡ registerOf (after calls) n .answer)

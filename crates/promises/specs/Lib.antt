@@ -1,0 +1,3 @@
+-- The demands of the request, each a statement over the definitions of the crates below.
+pub mod Acks
+pub mod Demand2

@@ -1,0 +1,1 @@
+// No code: what the crates below promise together, stated in specs/ and proved in proofs/.
