@@ -1,0 +1,7 @@
+-- The demands, proved.
+pub mod Demand3Marks
+pub mod Demand3Rebuilt
+pub mod Demand3Places
+pub mod Demand3Invariant
+pub mod Demand3
+pub mod Demand3Example

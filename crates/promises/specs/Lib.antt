@@ -1,0 +1,2 @@
+-- The demands, one file each.
+pub mod Demand3

@@ -1,0 +1,2 @@
+-- What the contracts of `reassembly` cite.
+pub mod Store

@@ -1,0 +1,1 @@
+// Pieces of messages, put together.
