@@ -13,7 +13,7 @@ use native.Mathlib.Decide.{ℕ-discrete}
 use borrow.Author.Tests.{eq-eqb, ne-eqb, lt-ltb, le-ltb, lt-leb, le-leb, eqb-true, eqb-false}
 use Rattle.reassembly.specs.Store.{Piece, first, follow, Message, Whole, idOf, numberOf, finalOf, bytesOf, isHeld, allHeld, someHeld, total, joined, messageOr, plus, badLength, badNumber, repeats, clashes, tooMuch, complete, wholeOf, tooShort}
 use Rattle.promises.specs.Demand3.{Cut, Within, pieceOf, cutFrom, anyMark, allMarks}
-use Rattle.reassembly.proofs.Pieces.{held-of-length, total-set, total-le, length-joined, none-held}
+use Rattle.reassembly.proofs.Table.{held-of-length, total-set, total-le, length-joined, none-held}
 use Rattle.promises.proofs.Demand3Marks.{all-at, not-all-at, none-at, all-held}
 use Rattle.wire.proofs.Same.{eq-same}
 

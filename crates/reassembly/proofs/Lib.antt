@@ -1,3 +1,9 @@
 -- The laws that the crates above cite.
-pub mod Pieces
+pub mod Table
 pub mod Cases
+pub mod Fields
+pub mod Zeros
+pub mod Scan
+pub mod Joined
+pub mod Ages
+pub mod Branches
