@@ -7,3 +7,6 @@ pub mod Scan
 pub mod Joined
 pub mod Ages
 pub mod Branches
+pub mod Series
+pub mod Written
+pub mod Held

@@ -5,3 +5,4 @@ pub mod Slots
 pub mod Message
 pub mod Judge
 pub mod Calls
+pub mod Stands
