@@ -10,3 +10,4 @@ pub mod Branches
 pub mod Series
 pub mod Written
 pub mod Held
+pub mod Kept
