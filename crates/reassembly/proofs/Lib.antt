@@ -11,3 +11,5 @@ pub mod Series
 pub mod Written
 pub mod Held
 pub mod Kept
+pub mod Others
+pub mod Answers
