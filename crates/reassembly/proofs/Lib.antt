@@ -13,3 +13,4 @@ pub mod Held
 pub mod Kept
 pub mod Others
 pub mod Answers
+pub mod Refines
