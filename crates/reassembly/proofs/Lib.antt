@@ -14,3 +14,5 @@ pub mod Kept
 pub mod Others
 pub mod Answers
 pub mod Refines
+pub mod Fresh
+pub mod Steps
