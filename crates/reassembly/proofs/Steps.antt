@@ -131,3 +131,139 @@ module _ (rec room out : List ℕ) (made : Made rec room) (p : Piece) (second : 
 
         in-slot : Agrees out (openedIn rec room out i l second v) (record { number = 0; out = none; store = set s i (some (plus (messageWith h₀ (cleared rec i) room i) p)) })
         in-slot = unfold openedIn newHead in k
+
+  -- the slot tests of the record are those of the store
+  open-test : (k : ℕ) → isOpenAs rec (l .id) k ≡ hasId (l .id) (slotAt rec room k)
+  unfolding isOpenAs slotAt isFree messageWith
+  open-test k = go (eqb (headAt rec k .count) 0)
+    where
+      go : (b : Bool) → (not b && eqb (headAt rec k .id) (l .id)) ≡ hasId (l .id) (cond b none (some (record { id = headAt rec k .id; opened = headAt rec k .opened; typ = headAt rec k .kind; expires = headAt rec k .expires; last = headAt rec k .last; table = tableAt rec room k })))
+      go true = refl
+      go false = refl
+
+  free-test : (k : ℕ) → isFree rec k ≡ isNone (slotAt rec room k)
+  unfolding slotAt
+  free-test k = go (isFree rec k)
+    where
+      go : (b : Bool) → b ≡ isNone (cond b none (some (messageWith (headAt rec k) rec room k)))
+      go true = refl
+      go false = refl
+
+  found : findId (idOf p) s ≡ firstFrom (isOpenAs rec (l .id)) 0 16
+  unfolding stands
+  found = ap (λ (z : ℕ). findId z (series (slotAt rec room) 0 16)) (sym (label-id p)) ∙ found-is (l .id) (slotAt rec room) (isOpenAs rec (l .id)) open-test 16
+
+  vacant : findFree s ≡ firstFrom (isFree rec) 0 16
+  unfolding stands
+  vacant = vacant-is (slotAt rec room) (isFree rec) free-test 16
+
+  sixteen : length s ≡ 16
+  unfolding stands
+  sixteen = length-series (slotAt rec room) 0 16
+
+  at-slot : (k : ℕ) → k < 16 → getD s k none ≡ slotAt rec room k
+  unfolding stands
+  at-slot k hk = getD-series (slotAt rec room) 16 k none hk
+
+  -- the slot that was found is in use
+  used-slot : (k : ℕ) → isOpenAs rec (l .id) k ≡ true → isFree rec k ≡ false
+  unfolding isOpenAs isFree
+  used-slot k e = go (eqb (headAt rec k .count) 0) refl e
+    where
+      go : (b : Bool) → eqb (headAt rec k .count) 0 ≡ b → (not b && eqb (headAt rec k .id) (l .id)) ≡ true → eqb (headAt rec k .count) 0 ≡ false
+      go true q t = absurd (false≢true t)
+      go false q t = q
+
+  step-open : (k : ℕ) → firstFrom (isOpenAs rec (l .id)) 0 16 ≡ k → k < 16 → isFree rec k ≡ false
+      → step (length out) s p second ≡ answer (length out) s p k (messageWith (headAt rec k) rec room k)
+  unfolding step placeOf messageOr
+  step-open k e hk u =
+      let q : findId (idOf p) s ≡ k = found ∙ e in
+      let t : getD s k none ≡ some (messageWith (headAt rec k) rec room k) = at-slot k hk ∙ slot-used k u in
+      rw (q, sixteen, lt-ltb k 16 hk, t) refl
+    where
+      slot-used : (k : ℕ) → isFree rec k ≡ false → slotAt rec room k ≡ some (messageWith (headAt rec k) rec room k)
+      slot-used k u = unfold slotAt in rw u refl
+
+  step-new : 16 ≤ firstFrom (isOpenAs rec (l .id)) 0 16
+      → step (length out) s p second ≡ answer (length out) s p (firstFrom (isFree rec) 0 16) (messageOr none (idOf p) second)
+  unfolding step placeOf
+  step-new n =
+      let q : ltb (findId (idOf p) s) (length s) ≡ false = le-ltb (findId (idOf p) s) (length s) (omega (arith, found, sixteen)) in
+      rw (q, free-none s, vacant) refl
+
+  step-full : (k : ℕ) → 16 ≤ k → answer (length out) s p k (messageOr none (idOf p) second) ≡ refused 52 s
+  unfolding answer
+  step-full k n =
+      let zero-in : 0 < 16 = omega arith in
+      let f₀ : Fine (newHead l second) (cleared rec 0) room 0 = fresh-fine rec room 0 (made .record-long) zero-in l second (fit .id) (fit .second-fits) in
+      let free₀ : isHeld (getD (tableAt (cleared rec 0) room 0) (l .number) []) ≡ false = none-held rec room 0 (made .record-long) zero-in (l .number) in
+      let e : messageOr none (idOf p) second ≡ messageWith (newHead l second) (cleared rec 0) room 0 = fresh-is rec room 0 (made .record-long) zero-in p second in
+      let r : repeats (messageOr none (idOf p) second) p ≡ false = ap (λ (z : Message). repeats z p) e ∙ repeats-free (newHead l second) (cleared rec 0) room 0 f₀ (made .room-long) zero-in p gn free₀ in
+      let c : clashes (messageOr none (idOf p) second) p ≡ false
+      = ap (λ (z : Message). clashes z p) e ∙ clashes-free (newHead l second) (cleared rec 0) room 0 f₀ (made .room-long) zero-in p gn free₀ ∙ fresh-fits l second in
+      rw (gl, gn, r, c, le-leb 16 k n) refl
+
+  pub taken-agrees : Agrees out (taken rec room out l second v) (step (length out) s p second)
+  unfolding taken openedNow
+  taken-agrees = go (ltb (firstFrom (isOpenAs rec (l .id)) 0 16) 16) refl (leb 16 (firstFrom (isFree rec) 0 16)) refl
+    where
+      go : (b : Bool) → ltb (firstFrom (isOpenAs rec (l .id)) 0 16) 16 ≡ b → (c : Bool) → leb 16 (firstFrom (isFree rec) 0 16) ≡ c
+          → Agrees out (taken rec room out l second v) (step (length out) s p second)
+      go true e c q =
+          let k : ℕ = firstFrom (isOpenAs rec (l .id)) 0 16 in
+          let hk : firstFrom (isOpenAs rec (l .id)) 0 16 < 16 = ltb-true (firstFrom (isOpenAs rec (l .id)) 0 16) 16 e in
+          let u : isFree rec (firstFrom (isOpenAs rec (l .id)) 0 16) ≡ false
+          = used-slot (firstFrom (isOpenAs rec (l .id)) 0 16) (first-passes (isOpenAs rec (l .id)) 0 16 (omega arith)) in
+          rw (e, step-open (firstFrom (isOpenAs rec (l .id)) 0 16) refl hk u) (added-agrees (firstFrom (isOpenAs rec (l .id)) 0 16) hk u)
+      go false e true q =
+          let n : 16 ≤ firstFrom (isOpenAs rec (l .id)) 0 16 = ltb-false (firstFrom (isOpenAs rec (l .id)) 0 16) 16 e in
+          rw (e, q, step-new n, step-full (firstFrom (isFree rec) 0 16) (leb-true 16 (firstFrom (isFree rec) 0 16) q)) (refusal rec room out 52 made)
+      go false e false q =
+          let n : 16 ≤ firstFrom (isOpenAs rec (l .id)) 0 16 = ltb-false (firstFrom (isOpenAs rec (l .id)) 0 16) 16 e in
+          rw (e, q, step-new n) (opened-agrees (firstFrom (isFree rec) 0 16) (leb-false 16 (firstFrom (isFree rec) 0 16) q))
+
+-- lengths of a record and a room that calls made
+long-enough : (rec room : List ℕ) → Made rec room → isShort rec room ≡ false
+unfolding isShort
+long-enough rec room m = rw (le-ltb (length rec) 8576 (m .record-long), le-ltb (length room) 1048560 (m .room-long)) refl
+
+step-50 : (cap : ℕ) (s : Store) (p : Piece) (second : ℕ) → badLength p ≡ true → step cap s p second ≡ refused 50 s
+unfolding step answer
+step-50 cap s p second e = rw e refl
+
+step-51 : (cap : ℕ) (s : Store) (p : Piece) (second : ℕ) → badLength p ≡ false → badNumber p ≡ true → step cap s p second ≡ refused 51 s
+unfolding step answer
+step-51 cap s p second e n = rw (e, n) refl
+
+-- a first piece, and a follow-on piece, of any length and number
+pub first-agrees : (rec room out : List ℕ) (made : Made rec room) (id typ expires second : ℕ) (bytes : List ℕ) → Fits (first id typ expires bytes) second
+    → Agrees out (firstCall rec room out (labelOf (first id typ expires bytes)) second bytes) (step (length out) (stands rec room) (first id typ expires bytes) second)
+unfolding firstCall bytesOf badNumber
+first-agrees rec room out made id typ expires second bytes fit = go (badSize (length bytes)) refl
+  where
+    go : (b : Bool) → badSize (length bytes) ≡ b
+        → Agrees out (firstCall rec room out (labelOf (first id typ expires bytes)) second bytes) (step (length out) (stands rec room) (first id typ expires bytes) second)
+    go true e =
+        rw (long-enough rec room made, e, step-50 (length out) (stands rec room) (first id typ expires bytes) second (good-length (first id typ expires bytes) ∙ e))
+        (refusal rec room out 50 made)
+    go false e =
+        rw (long-enough rec room made, e)
+        (taken-agrees rec room out made (first id typ expires bytes) second (good-length (first id typ expires bytes) ∙ e) refl fit)
+
+pub follow-agrees : (rec room out : List ℕ) (made : Made rec room) (id number : ℕ) (final : Bool) (second : ℕ) (bytes : List ℕ) → Fits (follow id number final bytes) second
+    → Agrees out (followOnCall rec room out (labelOf (follow id number final bytes)) second bytes) (step (length out) (stands rec room) (follow id number final bytes) second)
+unfolding followOnCall bytesOf badNumber offNumber labelOf
+follow-agrees rec room out made id number final second bytes fit = go (badSize (length bytes)) refl (eqb number 0 || ltb 127 number) refl
+  where
+    go : (b : Bool) → badSize (length bytes) ≡ b → (c : Bool) → (eqb number 0 || ltb 127 number) ≡ c
+        → Agrees out (followOnCall rec room out (labelOf (follow id number final bytes)) second bytes) (step (length out) (stands rec room) (follow id number final bytes) second)
+    go true e c n =
+        rw (long-enough rec room made, e, step-50 (length out) (stands rec room) (follow id number final bytes) second (good-length (follow id number final bytes) ∙ e))
+        (refusal rec room out 50 made)
+    go false e true n =
+        rw (long-enough rec room made, e, n, step-51 (length out) (stands rec room) (follow id number final bytes) second (good-length (follow id number final bytes) ∙ e) n)
+        (refusal rec room out 51 made)
+    go false e false n =
+        rw (long-enough rec room made, e, n)
+        (taken-agrees rec room out made (follow id number final bytes) second (good-length (follow id number final bytes) ∙ e) n fit)
