@@ -16,3 +16,4 @@ pub mod Answers
 pub mod Refines
 pub mod Fresh
 pub mod Steps
+pub mod Sweeps

@@ -84,7 +84,7 @@ entry-back e p l =
     ∙ (λ j. record { place = digits2 (e .place) j; len = digits2 (e .len) j })
 
 -- zeros
-part-zeros : (n p m : ℕ) → p + m ≤ n → part {A = ℕ} (replicate n 0) p m ≡ replicate m 0
+pub part-zeros : (n p m : ℕ) → p + m ≤ n → part {A = ℕ} (replicate n 0) p m ≡ replicate m 0
 part-zeros n p m h =
     let lp : length (part {A = ℕ} (replicate n 0) p m) ≡ m = length-part {A = ℕ} (replicate n 0) p m (omega (arith, length-replicate {A = ℕ} n 0)) in
     ext-getD {A = ℕ} 0 (part (replicate n 0) p m) (replicate m 0) (lp ∙ sym (length-replicate {A = ℕ} m 0))
