@@ -73,8 +73,14 @@ module _ (h : Head) (rec room : List ℕ) (i : ℕ) (f : Fine h rec room i) (rlo
   pub answer-53 : 65535 < h .total + length v → answer (length out) s p i m ≡ refused 53 s
   unfolding answer
   answer-53 t =
-      rw (gl, gn, repeats-free h rec room i f long hi p gn free, clashes-free h rec room i f long hi p gn free ∙ ok, lt-leb 16 i hi,
-        too-much h rec room i f long hi p gn ∙ lt-ltb 65535 (h .total + length v) t) refl
+      rw (
+        gl,
+        gn,
+        repeats-free h rec room i f long hi p gn free,
+        clashes-free h rec room i f long hi p gn free ∙ ok,
+        lt-leb 16 i hi,
+        too-much h rec room i f long hi p gn ∙ lt-ltb 65535 (h .total + length v) t,
+      ) refl
 
   module _ (fits : h .total + length v ≤ 65535) where
     table-is : tableAt rec′ room′ i ≡ set (tableAt rec room i) (l .number) v
@@ -123,15 +129,29 @@ module _ (h : Head) (rec room : List ℕ) (i : ℕ) (f : Fine h rec room i) (rlo
     pub answer-kept : isWhole g ≡ false → answer (length out) s p i m ≡ record { number = 0; out = none; store = set s i (some (plus m p)) }
     unfolding answer
     answer-kept w =
-        rw (gl, gn, repeats-free h rec room i f long hi p gn free, clashes-free h rec room i f long hi p gn free ∙ ok, lt-leb 16 i hi,
-          too-much h rec room i f long hi p gn ∙ le-ltb 65535 (h .total + length v) fits, whole-is ∙ w) refl
+        rw (
+          gl,
+          gn,
+          repeats-free h rec room i f long hi p gn free,
+          clashes-free h rec room i f long hi p gn free ∙ ok,
+          lt-leb 16 i hi,
+          too-much h rec room i f long hi p gn ∙ le-ltb 65535 (h .total + length v) fits,
+          whole-is ∙ w,
+        ) refl
 
     answer-whole : isWhole g ≡ true → answer (length out) s p i m
         ≡ cond (tooShort (length out) (plus m p)) (refused 56 s) (record { number = 60; out = some (wholeOf (plus m p)); store = set s i none })
     unfolding answer
     answer-whole w =
-        rw (gl, gn, repeats-free h rec room i f long hi p gn free, clashes-free h rec room i f long hi p gn free ∙ ok, lt-leb 16 i hi,
-          too-much h rec room i f long hi p gn ∙ le-ltb 65535 (h .total + length v) fits, whole-is ∙ w) refl
+        rw (
+          gl,
+          gn,
+          repeats-free h rec room i f long hi p gn free,
+          clashes-free h rec room i f long hi p gn free ∙ ok,
+          lt-leb 16 i hi,
+          too-much h rec room i f long hi p gn ∙ le-ltb 65535 (h .total + length v) fits,
+          whole-is ∙ w,
+        ) refl
 
     short-is : tooShort (length out) (plus m p) ≡ ltb (length out) (length (messageOf rec room i (l .number) v (g .last + 1)))
     unfolding tooShort

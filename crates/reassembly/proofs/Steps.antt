@@ -267,3 +267,20 @@ follow-agrees rec room out made id number final second bytes fit = go (badSize (
     go false e false n =
         rw (long-enough rec room made, e, n)
         (taken-agrees rec room out made (follow id number final bytes) second (good-length (follow id number final bytes) ∙ e) n fit)
+
+-- The promises of the calls, from the equations that they state.
+pub first-promise : (rec room out : List ℕ) (id typ expires second : ℕ) (bytes : List ℕ) (x : After) → id < 4294967296 → expires < 4294967296 → second < 18446744073709551616
+    → x ≡ firstCall rec room out (record { id = id; number = 0; last = false; kind = typ; expires = expires }) second bytes
+    → Made rec room → Agrees out x (step (length out) (stands rec room) (first id typ expires bytes) second)
+unfolding labelOf
+first-promise rec room out id typ expires second bytes x hi hx hs e made =
+    subst (λ (y : After). Agrees out y (step (length out) (stands rec room) (first id typ expires bytes) second)) (sym e)
+    (first-agrees rec room out made id typ expires second bytes (record { id = hi; expires = hx; second-fits = hs }))
+
+pub follow-promise : (rec room out : List ℕ) (id number : ℕ) (final : Bool) (second : ℕ) (bytes : List ℕ) (x : After) → id < 4294967296 → second < 18446744073709551616
+    → x ≡ followOnCall rec room out (record { id = id; number = number; last = final; kind = 0; expires = 0 }) second bytes
+    → Made rec room → Agrees out x (step (length out) (stands rec room) (follow id number final bytes) second)
+unfolding labelOf
+follow-promise rec room out id number final second bytes x hi hs e made =
+    subst (λ (y : After). Agrees out y (step (length out) (stands rec room) (follow id number final bytes) second)) (sym e)
+    (follow-agrees rec room out made id number final second bytes (record { id = hi; expires = omega arith; second-fits = hs }))

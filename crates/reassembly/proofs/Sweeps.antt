@@ -19,7 +19,7 @@ use Rattle.reassembly.specs.Record.{headOf, headAt, withHead}
 use Rattle.reassembly.specs.Slots.{isFree}
 use Rattle.reassembly.specs.Judge.{noHead, isOld}
 use Rattle.reassembly.specs.Calls.{sweptAt, sweptTo, swept, renewed}
-use Rattle.reassembly.specs.Stands.{series, tableAt, messageWith, slotAt, stands, Fine, Made}
+use Rattle.reassembly.specs.Stands.{series, tableAt, messageWith, slotAt, stands, Fine, Made, Swept, New}
 use Rattle.reassembly.proofs.Series.{series-same}
 use Rattle.reassembly.proofs.Written.{length-head, part-zeros}
 use Rattle.reassembly.proofs.Others.{Others, others-head, slot-same, made-with, freed-slot, freed-free}
@@ -160,3 +160,18 @@ new-stands rec room lr lm = rw (le-ltb (length rec) 8576 lr) (blank-stands rec r
 pub new-made : (rec room : List ℕ) → 8576 ≤ length rec → 1048560 ≤ length room → Made (renewed rec) room
 unfolding renewed
 new-made rec room lr lm = rw (le-ltb (length rec) 8576 lr) (blank-made rec room 8576 lr lm (omega arith))
+
+-- The promises of the calls, from the equations that they state.
+pub sweep-promise : (second : ℕ) (rec rec′ : List ℕ) → rec′ ≡ swept second rec → Swept second rec rec′
+sweep-promise second rec rec′ e =
+    record {
+      store = λ room m. ap (λ (z : List ℕ). stands z room) e ∙ sweep-stands second rec room m;
+      made = λ room m. subst (λ (z : List ℕ). Made z room) (sym e) (sweep-made second rec room m);
+    }
+
+pub new-promise : (rec rec′ : List ℕ) → rec′ ≡ renewed rec → New rec rec′
+new-promise rec rec′ e =
+    record {
+      store = λ room lr lm. ap (λ (z : List ℕ). stands z room) e ∙ new-stands rec room lr lm;
+      made = λ room lr lm. subst (λ (z : List ℕ). Made z room) (sym e) (new-made rec room lr lm);
+    }

@@ -9,10 +9,10 @@ use Rattle.wire.specs.Parts.{splice}
 use Rattle.reassembly.specs.declared.record.Head.{Head}
 use Rattle.reassembly.specs.declared.judge.Label.{Label}
 use Rattle.reassembly.specs.declared.Reply.{Reply}
-use Rattle.reassembly.specs.Store.{Piece, first, follow, Message, Store, Whole, Answer, isHeld, total, bytesOf, step, sweep, empty}
+use Rattle.reassembly.specs.Store.{Piece, first, follow, Message, Store, Whole, Answer, isHeld, total, sweep, empty}
 use Rattle.reassembly.specs.Record.{headAt, entryAt, pieceAt}
 use Rattle.reassembly.specs.Slots.{isFree}
-use Rattle.reassembly.specs.Calls.{After, bare, firstCall, followOnCall, swept, renewed}
+use Rattle.reassembly.specs.Calls.{After, bare}
 
 -- the values of f at n numbers from i on
 abbrev pub series : {A : Type 0} → (ℕ → A) → ℕ → ℕ → List A
@@ -55,7 +55,7 @@ pub record Fine (h : Head) (rec room : List ℕ) (i : ℕ) : Type 0 where
   pub last-small : h .last < 128
   pub lastmost : 0 < h .last → (k : ℕ) → isHeld (getD (tableAt rec room i) k []) ≡ true → k ≤ h .last
 
--- A record and a room as the calls leave them. (All zero is one; see specs/Promise.antt.)
+-- A record and a room as the calls leave them. (All zero is one: `New`.)
 pub record Made (rec room : List ℕ) : Type 0 where
   pub record-long : 8576 ≤ length rec
   pub room-long : 1048560 ≤ length room
@@ -82,3 +82,13 @@ pub record Agrees (out : List ℕ) (x : After) (a : Answer) : Type 0 where
   pub delivered : x .out ≡ laidOut out (a .out)
   pub store : stands (x .rec) (x .room) ≡ a .store
   pub made : Made (x .rec) (x .room)
+
+-- A sweep did to what the record stands for, with any room that it was used with, what the store's sweep does.
+pub record Swept (second : ℕ) (rec rec′ : List ℕ) : Type 0 where
+  pub store : (room : List ℕ) → Made rec room → stands rec′ room ≡ sweep second (stands rec room)
+  pub made : (room : List ℕ) → Made rec room → Made rec′ room
+
+-- A new record stands for the empty store, with any room of the lent length.
+pub record New (rec rec′ : List ℕ) : Type 0 where
+  pub store : (room : List ℕ) → 8576 ≤ length rec → 1048560 ≤ length room → stands rec′ room ≡ empty
+  pub made : (room : List ℕ) → 8576 ≤ length rec → 1048560 ≤ length room → Made rec′ room

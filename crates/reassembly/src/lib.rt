@@ -12,8 +12,9 @@ ghost use mathlib.Core.Bool.{true, false};
 ghost use mathlib.Core.List.{List};
 ghost use Prim.Native.Nat.{ℕ, _+_, _*_, _<_, _≤_};
 ghost use lib.ListN.{length};
-ghost use Rattle.reassembly.specs.Judge.{isWhole};
+ghost use Rattle.reassembly.specs.Store.{first, follow, step};
 ghost use Rattle.reassembly.specs.Calls.{after, bare, keptRec, keptRoom, finished, putIn, added, openedIn, openedNow, taken, isShort, badSize, offNumber, firstCall, followOnCall, sweptAt, sweptTo, swept, renewed, renewal};
+ghost use Rattle.reassembly.specs.Stands.{stands, Made, Agrees, Swept, New};
 
 // A call's answer: 01's number, and with 60 the finished message's type, expiration and length in the assembly buffer.
 #[repr(C)]
@@ -202,6 +203,7 @@ pub fn first_fragment(
     bytes: &[u8],
 ) -> Reply
     ensures { λ r. ⌜ after r (now (rec .exit)) (now (room .exit)) (now (out .exit)) ≡ firstCall (now (rec .entry)) (now (room .entry)) (now (out .entry)) (record { id = id; number = 0; last = false; kind = kind; expires = expires }) second (now (bytes .entry)) ⌝ }
+    ensures { λ r. ⌜ (Made (now (rec .entry)) (now (room .entry)) → Agrees (now (out .entry)) (after r (now (rec .exit)) (now (room .exit)) (now (out .exit))) (step (length (now (out .entry))) (stands (now (rec .entry)) (now (room .entry))) (first id kind expires (now (bytes .entry))) second)) ⌝ }
 {
     if is_short(rec, room) {
         return bare(59);
@@ -231,6 +233,7 @@ pub fn follow_on_fragment(
     bytes: &[u8],
 ) -> Reply
     ensures { λ r. ⌜ after r (now (rec .exit)) (now (room .exit)) (now (out .exit)) ≡ followOnCall (now (rec .entry)) (now (room .entry)) (now (out .entry)) (record { id = id; number = number; last = last; kind = 0; expires = 0 }) second (now (bytes .entry)) ⌝ }
+    ensures { λ r. ⌜ (Made (now (rec .entry)) (now (room .entry)) → Agrees (now (out .entry)) (after r (now (rec .exit)) (now (room .exit)) (now (out .exit))) (step (length (now (out .entry))) (stands (now (rec .entry)) (now (room .entry))) (follow id number last (now (bytes .entry))) second)) ⌝ }
 {
     if is_short(rec, room) {
         return bare(59);
@@ -276,6 +279,7 @@ fn sweep_all(rec: &mut [u8], second: u64)
 // Drops the messages that were opened 30 seconds ago or earlier; answers 0.
 pub fn sweep(rec: &mut [u8], second: u64) -> u8
     ensures { λ r. ⌜ (r ≡ 0) × (now (rec .exit) ≡ swept second (now (rec .entry))) ⌝ }
+    ensures { λ _. ⌜ Swept second (now (rec .entry)) (now (rec .exit)) ⌝ }
 {
     if rec.len() < 8576 {
         return 0;
@@ -287,6 +291,7 @@ pub fn sweep(rec: &mut [u8], second: u64) -> u8
 // A new store: the record is all zero. 59 where the record is short.
 pub fn new(rec: &mut [u8]) -> u8
     ensures { λ r. ⌜ (r ≡ renewal (now (rec .entry))) × (now (rec .exit) ≡ renewed (now (rec .entry))) ⌝ }
+    ensures { λ _. ⌜ New (now (rec .entry)) (now (rec .exit)) ⌝ }
 {
     if rec.len() < 8576 {
         return 59;

@@ -1,3 +1,4 @@
+use Rattle.reassembly.proofs.Steps.{first-promise}
 use mathlib.Core.Path.{sym, _∙_}
 use mathlib.Core.Bool.{true, false}
 use native.Mathlib.Omega.{arith}
@@ -25,7 +26,8 @@ returns : tie.Need-returns
 returns c =
     let a = c .before .before .before .before .before .before .before .before .before .args in
     let l : Label = record { id = a .id; number = 0; last = false; kind = a .kind; expires = a .expires } in
-    first-59 (a .rec .now) (a .room .now) (a .out .now) l (a .second) (a .bytes .now) (c .bare .result) (sym (c .before .before .is-short .ensures) ∙ c .before .if1 .taken) (c .bare .ensures)
+    let e = first-59 (a .rec .now) (a .room .now) (a .out .now) l (a .second) (a .bytes .now) (c .bare .result) (sym (c .before .before .is-short .ensures) ∙ c .before .if1 .taken) (c .bare .ensures) in
+    (e, first-promise (a .rec .now) (a .room .now) (a .out .now) (a .id) (a .kind) (a .expires) (a .second) (a .bytes .now) (after (c .bare .result) (a .rec .now) (a .room .now) (a .out .now)) (search needs) (search needs) (search needs) e)
 
 bad-size-requires : tie.Need-bad-size-requires
 bad-size-requires c κs = search needs
@@ -43,7 +45,8 @@ returns-2 : tie.Need-returns-2
 returns-2 c =
     let a = c .before .before .before .before .before .before .before .before .before .before .before .args in
     let l : Label = record { id = a .id; number = 0; last = false; kind = a .kind; expires = a .expires } in
-    first-50 (a .rec .now) (a .room .now) (a .out .now) l (a .second) (a .bytes .now) (c .bare2 .result) (sym (c .before .before .before .before .is-short .ensures) ∙ c .before .before .before .if1 .left) (sym (c .before .before .bad-size .ensures) ∙ c .before .if2 .taken) (c .bare2 .ensures)
+    let e = first-50 (a .rec .now) (a .room .now) (a .out .now) l (a .second) (a .bytes .now) (c .bare2 .result) (sym (c .before .before .before .before .is-short .ensures) ∙ c .before .before .before .if1 .left) (sym (c .before .before .bad-size .ensures) ∙ c .before .if2 .taken) (c .bare2 .ensures) in
+    (e, first-promise (a .rec .now) (a .room .now) (a .out .now) (a .id) (a .kind) (a .expires) (a .second) (a .bytes .now) (after (c .bare2 .result) (a .rec .now) (a .room .now) (a .out .now)) (search needs) (search needs) (search needs) e)
 
 take-requires : tie.Need-take-requires
 take-requires c κs =
@@ -65,7 +68,8 @@ returns-3 : tie.Need-returns-3
 returns-3 c =
     let a = c .before .before .before .before .before .before .before .before .before .before .before .before .before .before .before .before .before .before .before .before .args in
     let l : Label = record { id = a .id; number = 0; last = false; kind = a .kind; expires = a .expires } in
-    first-taken (a .rec .now) (a .room .now) (a .out .now) l (a .second) (a .bytes .now) (after (c .before .before .before .before .before .before .take .result) (c .before .before .before .before .before .before .take .last .0) (c .before .before .before .before .before .before .take .last .1 .0) (c .before .before .before .before .before .before .take .last .1 .1 .0)) (sym (c .before .before .before .before .before .before .before .before .before .before .before .before .before .is-short .ensures) ∙ c .before .before .before .before .before .before .before .before .before .before .before .before .if1 .left) (sym (c .before .before .before .before .before .before .before .before .before .before .before .bad-size .ensures) ∙ c .before .before .before .before .before .before .before .before .before .before .if2 .left) (c .before .before .before .before .before .before .take .ensures)
+    let e = first-taken (a .rec .now) (a .room .now) (a .out .now) l (a .second) (a .bytes .now) (after (c .before .before .before .before .before .before .take .result) (c .before .before .before .before .before .before .take .last .0) (c .before .before .before .before .before .before .take .last .1 .0) (c .before .before .before .before .before .before .take .last .1 .1 .0)) (sym (c .before .before .before .before .before .before .before .before .before .before .before .before .before .is-short .ensures) ∙ c .before .before .before .before .before .before .before .before .before .before .before .before .if1 .left) (sym (c .before .before .before .before .before .before .before .before .before .before .before .bad-size .ensures) ∙ c .before .before .before .before .before .before .before .before .before .before .if2 .left) (c .before .before .before .before .before .before .take .ensures) in
+    (e, first-promise (a .rec .now) (a .room .now) (a .out .now) (a .id) (a .kind) (a .expires) (a .second) (a .bytes .now) (after (c .before .before .before .before .before .before .take .result) (c .before .before .before .before .before .before .take .last .0) (c .before .before .before .before .before .before .take .last .1 .0) (c .before .before .before .before .before .before .take .last .1 .1 .0)) (search needs) (search needs) (search needs) e)
 
 pub first-fragment-spec : {M : Type 1} → statement M
 first-fragment-spec =

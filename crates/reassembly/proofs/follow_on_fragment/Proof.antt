@@ -1,3 +1,4 @@
+use Rattle.reassembly.proofs.Steps.{follow-promise}
 use mathlib.Core.Path.{sym, _∙_}
 use mathlib.Core.Bool.{true, false}
 use native.Mathlib.Omega.{arith}
@@ -25,7 +26,8 @@ returns : tie.Need-returns
 returns c =
     let a = c .before .before .before .before .before .before .before .before .before .args in
     let l : Label = record { id = a .id; number = a .number; last = a .last; kind = 0; expires = 0 } in
-    follow-59 (a .rec .now) (a .room .now) (a .out .now) l (a .second) (a .bytes .now) (c .bare .result) (sym (c .before .before .is-short .ensures) ∙ c .before .if1 .taken) (c .bare .ensures)
+    let e = follow-59 (a .rec .now) (a .room .now) (a .out .now) l (a .second) (a .bytes .now) (c .bare .result) (sym (c .before .before .is-short .ensures) ∙ c .before .if1 .taken) (c .bare .ensures) in
+    (e, follow-promise (a .rec .now) (a .room .now) (a .out .now) (a .id) (a .number) (a .last) (a .second) (a .bytes .now) (after (c .bare .result) (a .rec .now) (a .room .now) (a .out .now)) (search needs) (search needs) e)
 
 bad-size-requires : tie.Need-bad-size-requires
 bad-size-requires c κs = search needs
@@ -43,7 +45,8 @@ returns-2 : tie.Need-returns-2
 returns-2 c =
     let a = c .before .before .before .before .before .before .before .before .before .before .before .args in
     let l : Label = record { id = a .id; number = a .number; last = a .last; kind = 0; expires = 0 } in
-    follow-50 (a .rec .now) (a .room .now) (a .out .now) l (a .second) (a .bytes .now) (c .bare2 .result) (sym (c .before .before .before .before .is-short .ensures) ∙ c .before .before .before .if1 .left) (sym (c .before .before .bad-size .ensures) ∙ c .before .if2 .taken) (c .bare2 .ensures)
+    let e = follow-50 (a .rec .now) (a .room .now) (a .out .now) l (a .second) (a .bytes .now) (c .bare2 .result) (sym (c .before .before .before .before .is-short .ensures) ∙ c .before .before .before .if1 .left) (sym (c .before .before .bad-size .ensures) ∙ c .before .if2 .taken) (c .bare2 .ensures) in
+    (e, follow-promise (a .rec .now) (a .room .now) (a .out .now) (a .id) (a .number) (a .last) (a .second) (a .bytes .now) (after (c .bare2 .result) (a .rec .now) (a .room .now) (a .out .now)) (search needs) (search needs) e)
 
 off-number-requires : tie.Need-off-number-requires
 off-number-requires c κs = search needs
@@ -61,7 +64,8 @@ returns-3 : tie.Need-returns-3
 returns-3 c =
     let a = c .before .before .before .before .before .before .before .before .before .before .before .before .before .args in
     let l : Label = record { id = a .id; number = a .number; last = a .last; kind = 0; expires = 0 } in
-    follow-51 (a .rec .now) (a .room .now) (a .out .now) l (a .second) (a .bytes .now) (c .bare3 .result) (sym (c .before .before .before .before .before .before .is-short .ensures) ∙ c .before .before .before .before .before .if1 .left) (sym (c .before .before .before .before .bad-size .ensures) ∙ c .before .before .before .if2 .left) (sym (c .before .before .off-number .ensures) ∙ c .before .if3 .taken) (c .bare3 .ensures)
+    let e = follow-51 (a .rec .now) (a .room .now) (a .out .now) l (a .second) (a .bytes .now) (c .bare3 .result) (sym (c .before .before .before .before .before .before .is-short .ensures) ∙ c .before .before .before .before .before .if1 .left) (sym (c .before .before .before .before .bad-size .ensures) ∙ c .before .before .before .if2 .left) (sym (c .before .before .off-number .ensures) ∙ c .before .if3 .taken) (c .bare3 .ensures) in
+    (e, follow-promise (a .rec .now) (a .room .now) (a .out .now) (a .id) (a .number) (a .last) (a .second) (a .bytes .now) (after (c .bare3 .result) (a .rec .now) (a .room .now) (a .out .now)) (search needs) (search needs) e)
 
 take-requires : tie.Need-take-requires
 take-requires c κs =
@@ -84,7 +88,8 @@ returns-4 : tie.Need-returns-4
 returns-4 c =
     let a = c .before .before .before .before .before .before .before .before .before .before .before .before .before .before .before .before .before .before .before .before .before .before .args in
     let l : Label = record { id = a .id; number = a .number; last = a .last; kind = 0; expires = 0 } in
-    follow-taken (a .rec .now) (a .room .now) (a .out .now) l (a .second) (a .bytes .now) (after (c .before .before .before .before .before .before .take .result) (c .before .before .before .before .before .before .take .last .0) (c .before .before .before .before .before .before .take .last .1 .0) (c .before .before .before .before .before .before .take .last .1 .1 .0)) (sym (c .before .before .before .before .before .before .before .before .before .before .before .before .before .before .before .is-short .ensures) ∙ c .before .before .before .before .before .before .before .before .before .before .before .before .before .before .if1 .left) (sym (c .before .before .before .before .before .before .before .before .before .before .before .before .before .bad-size .ensures) ∙ c .before .before .before .before .before .before .before .before .before .before .before .before .if2 .left) (sym (c .before .before .before .before .before .before .before .before .before .before .before .off-number .ensures) ∙ c .before .before .before .before .before .before .before .before .before .before .if3 .left) (c .before .before .before .before .before .before .take .ensures)
+    let e = follow-taken (a .rec .now) (a .room .now) (a .out .now) l (a .second) (a .bytes .now) (after (c .before .before .before .before .before .before .take .result) (c .before .before .before .before .before .before .take .last .0) (c .before .before .before .before .before .before .take .last .1 .0) (c .before .before .before .before .before .before .take .last .1 .1 .0)) (sym (c .before .before .before .before .before .before .before .before .before .before .before .before .before .before .before .is-short .ensures) ∙ c .before .before .before .before .before .before .before .before .before .before .before .before .before .before .if1 .left) (sym (c .before .before .before .before .before .before .before .before .before .before .before .before .before .bad-size .ensures) ∙ c .before .before .before .before .before .before .before .before .before .before .before .before .if2 .left) (sym (c .before .before .before .before .before .before .before .before .before .before .before .off-number .ensures) ∙ c .before .before .before .before .before .before .before .before .before .before .if3 .left) (c .before .before .before .before .before .before .take .ensures) in
+    (e, follow-promise (a .rec .now) (a .room .now) (a .out .now) (a .id) (a .number) (a .last) (a .second) (a .bytes .now) (after (c .before .before .before .before .before .before .take .result) (c .before .before .before .before .before .before .take .last .0) (c .before .before .before .before .before .before .take .last .1 .0) (c .before .before .before .before .before .before .take .last .1 .1 .0)) (search needs) (search needs) e)
 
 pub follow-on-fragment-spec : {M : Type 1} → statement M
 follow-on-fragment-spec =

@@ -1,3 +1,4 @@
+use Rattle.reassembly.proofs.Sweeps.{sweep-promise}
 use mathlib.Core.Path.{_≡_, refl, sym, ap, _∙_}
 use borrow.Author.Tests.{lt-ltb, le-ltb, eq-eqb, ne-eqb, le-leb, lt-leb}
 use mathlib.Core.Bool.{true, false}
@@ -11,8 +12,10 @@ use Rattle.reassembly.proofs.sweep.Tie as tie
 returns : tie.Need-returns
 unfolding swept
 returns c =
-    let t : ltb (length (c .before .before .args .rec .now)) 8576 ≡ true = lt-ltb (length (c .before .before .args .rec .now)) 8576 (search needs) in
-    rw t (refl, refl)
+    let a = c .before .before .args in
+    let t : ltb (length (a .rec .now)) 8576 ≡ true = lt-ltb (length (a .rec .now)) 8576 (search needs) in
+    let e : a .rec .now ≡ swept (a .second) (a .rec .now) = rw t refl in
+    ((refl, e), sweep-promise (a .second) (a .rec .now) (a .rec .now) e)
 
 sweep-all-requires : tie.Need-sweep-all-requires
 sweep-all-requires c κs = search needs
@@ -23,8 +26,10 @@ same-length c = search needs
 returns-2 : tie.Need-returns-2
 unfolding swept
 returns-2 c =
-    let t : ltb (length (c .before .before .before .before .before .before .args .rec .now)) 8576 ≡ false = le-ltb (length (c .before .before .before .before .before .before .args .rec .now)) 8576 (search needs) in
-    rw t (refl, c .before .before .sweep-all .ensures)
+    let a = c .before .before .before .before .before .before .args in
+    let t : ltb (length (a .rec .now)) 8576 ≡ false = le-ltb (length (a .rec .now)) 8576 (search needs) in
+    let e : c .before .before .sweep-all .last .0 ≡ swept (a .second) (a .rec .now) = rw t (c .before .before .sweep-all .ensures) in
+    ((refl, e), sweep-promise (a .second) (a .rec .now) (c .before .before .sweep-all .last .0) e)
 
 pub sweep-spec : {M : Type 1} → statement M
 sweep-spec = tie.close (tie.spec returns sweep-all-requires same-length returns-2)
