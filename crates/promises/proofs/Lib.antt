@@ -5,3 +5,4 @@ pub mod Demand3Places
 pub mod Demand3Invariant
 pub mod Demand3
 pub mod Demand3Example
+pub mod Demand3Calls

@@ -2,7 +2,7 @@
 use mathlib.Core.Path.{_≡_, refl, sym, ap, _∙_}
 use mathlib.Core.Bool.{Bool, true, false, cond, _&&_, _||_, false≢true}
 use mathlib.Core.List.{List}
-use Prim.Native.Nat.{ℕ, _+_, _≤_, _<_}
+use Prim.Native.Nat.{ℕ, _+_, _*_, _≤_, _<_}
 use native.Mathlib.Omega.{arith}
 use lib.Dec.{eqb, ltb, leb}
 use lib.ListN.{length}
@@ -12,11 +12,11 @@ use Rattle.reassembly.specs.declared.record.Head.{Head}
 use Rattle.reassembly.specs.declared.record.Entry.{Entry}
 use Rattle.reassembly.specs.declared.judge.Label.{Label}
 use Rattle.reassembly.specs.declared.Reply.{Reply}
-use Rattle.reassembly.specs.Record.{headAt, withHead, entryAt, pieceAt, cleared}
+use Rattle.reassembly.specs.Record.{headAt, withHead, entryAt, withEntry, pieceAt, cleared}
 use Rattle.reassembly.specs.Slots.{firstFrom, isOpenAs, isFree}
 use Rattle.reassembly.specs.Message.{messageOf}
-use Rattle.reassembly.specs.Judge.{again, misfits, grownBy, isWhole, newHead, noHead}
-use Rattle.reassembly.specs.Calls.{After, after, bare, keptRec, keptRoom, finished, putIn, added, openedIn, openedNow, taken, isShort, badSize, offNumber, firstCall, followOnCall}
+use Rattle.reassembly.specs.Judge.{again, misfits, grownBy, isWhole, newHead, noHead, isOld}
+use Rattle.reassembly.specs.Calls.{After, after, bare, keptRec, keptRoom, finished, putIn, added, openedIn, openedNow, taken, isShort, badSize, offNumber, firstCall, followOnCall, sweptAt}
 
 -- a message that is whole has a last number below 128
 pub whole-last : (h : Head) → isWhole h ≡ true → h .last < 128
@@ -84,6 +84,32 @@ module _ (rec room out : List ℕ) (i : ℕ) (l : Label) (v : List ℕ) (h : Hea
   added-put x b t m m′ q =
       let u : misfits (headAt rec i) l ≡ false = cc in
       rw (eq-eqb (entryAt rec i (l .number) .len) 0 (sym len-is ∙ t), u) (q ∙ ap (λ (z : Head). putIn rec room out i z l v) eh)
+
+-- a piece put after what its slot holds
+pub kept-is : (rec rec₁ rec′ room room′ : List ℕ) (i k total : ℕ) (g : Head) (v : List ℕ) (at : ℕ) → at ≡ total → room′ ≡ splice room (i * 65535 + at) v
+    → rec₁ ≡ withEntry rec i k (record { place = total; len = length v }) → rec′ ≡ withHead rec₁ i g
+    → (rec′ ≡ keptRec rec i k total (length v) g) × (room′ ≡ keptRoom room i total v)
+unfolding keptRec keptRoom
+kept-is rec rec₁ rec′ room room′ i k total g v at ea em e₁ e₂ =
+    (e₂ ∙ ap (λ (z : List ℕ). withHead z i g) e₁, em ∙ ap (λ (z : ℕ). splice room (i * 65535 + z) v) ea)
+
+pub opened-kept : (rec room rec₁ rec′ room′ : List ℕ) (i k second : ℕ) (l : Label) (g₀ g : Head) (v : List ℕ) → rec₁ ≡ cleared rec i → g₀ ≡ newHead l second → g ≡ grownBy g₀ l (length v)
+    → k ≡ l .number → rec′ ≡ keptRec rec₁ i k 0 (length v) g → room′ ≡ keptRoom room i 0 v
+    → (out : List ℕ) → after (bare 0) rec′ room′ out ≡ openedIn rec room out i l second v
+unfolding openedIn
+opened-kept rec room rec₁ rec′ room′ i k second l g₀ g v e₁ e₂ e₃ e₄ e₅ e₆ out = cc
+
+pub swept-old : (rec rec′ : List ℕ) (i second : ℕ) (h z : Head) (b : Bool) → h ≡ headAt rec i → b ≡ isOld second h → b ≡ true → z ≡ noHead → rec′ ≡ withHead rec i z → rec′ ≡ sweptAt second rec i
+unfolding sweptAt
+swept-old rec rec′ i second h z b eh eb t ez er =
+    let o : isOld second (headAt rec i) ≡ true = ap (isOld second) (sym eh) ∙ sym eb ∙ t in
+    rw o (er ∙ ap (withHead rec i) ez)
+
+pub swept-young : (rec : List ℕ) (i second : ℕ) (h : Head) (b : Bool) → h ≡ headAt rec i → b ≡ isOld second h → b ≡ false → rec ≡ sweptAt second rec i
+unfolding sweptAt
+swept-young rec i second h b eh eb t =
+    let o : isOld second (headAt rec i) ≡ false = ap (isOld second) (sym eh) ∙ sym eb ∙ t in
+    rw o refl
 
 module _ (rec room out : List ℕ) (l : Label) (second : ℕ) (v : List ℕ) where
   pub opened-52 : (r : Reply) → 16 ≤ firstFrom (isFree rec) 0 16 → r ≡ bare 52 → after r rec room out ≡ openedNow rec room out l second v

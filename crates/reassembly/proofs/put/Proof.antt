@@ -1,3 +1,4 @@
+use mathlib.Core.Path.{sym, _∙_}
 use Rattle.reassembly.specs.Calls.{after}
 use Rattle.reassembly.proofs.Branches.{put-53, put-whole, put-kept, whole-last}
 use mathlib.Core.Path.{_≡_, refl, sym, ap, _∙_}
@@ -37,9 +38,8 @@ is-whole-requires : tie.Need-is-whole-requires
 is-whole-requires c κs = search needs
 
 finish-requires : tie.Need-finish-requires
-finish-requires c κs =
-    let w : isWhole (c .before .before .before .before .before .grown .result) ≡ true = cc in
-    (search needs, search needs, search needs, whole-last (c .before .before .before .before .before .grown .result) w, search needs)
+finish-requires c κs = 
+    (search needs, search needs, search needs, whole-last (c .before .before .before .before .before .grown .result) (sym (c .before .before .before .before .is-whole .ensures) ∙ c .before .before .before .if2 .taken), search needs)
 
 same-length : tie.Need-same-length
 same-length c = search needs
@@ -51,10 +51,9 @@ same-length-3 : tie.Need-same-length-3
 same-length-3 c = search needs
 
 returns-2 : tie.Need-returns-2
-returns-2 c =
+returns-2 c = 
     let a = c .before .before .before .before .before .before .before .before .before .before .before .before .before .before .before .before .before .args in
-    let w : isWhole (c .before .before .before .before .before .before .before .before .before .before .grown .result) ≡ true = cc in
-    put-whole (a .rec .now) (a .room .now) (a .out .now) (a .i) (a .h) (a .l) (a .bytes .now) (after (c .before .before .before .before .finish .result) (c .before .before .before .before .finish .last .0) (a .room .now) (c .before .before .before .before .finish .last .1 .1 .0)) (c .before .before .before .before .before .before .before .before .before .before .grown .result) (search needs) (c .before .before .before .before .before .before .before .before .before .before .grown .ensures) w (c .before .before .before .before .finish .ensures)
+    put-whole (a .rec .now) (a .room .now) (a .out .now) (a .i) (a .h) (a .l) (a .bytes .now) (after (c .before .before .before .before .finish .result) (c .before .before .before .before .finish .last .0) (a .room .now) (c .before .before .before .before .finish .last .1 .1 .0)) (c .before .before .before .before .before .before .before .before .before .before .grown .result) (search needs) (c .before .before .before .before .before .before .before .before .before .before .grown .ensures) (sym (c .before .before .before .before .before .before .before .before .before .is-whole .ensures) ∙ c .before .before .before .before .before .before .before .before .if2 .taken) (c .before .before .before .before .finish .ensures)
 
 wide8-requires : tie.Need-wide8-requires
 wide8-requires c κs = search needs
@@ -72,10 +71,9 @@ same-length-5 : tie.Need-same-length-5
 same-length-5 c = search needs
 
 returns-3 : tie.Need-returns-3
-returns-3 c =
+returns-3 c = 
     let a = c .before .before .before .before .before .before .before .before .before .before .before .before .before .before .before .before .before .before .args in
-    let w : isWhole (c .before .before .before .before .before .before .before .before .before .before .before .grown .result) ≡ false = cc in
-    put-kept (a .rec .now) (a .room .now) (a .out .now) (a .i) (a .h) (a .l) (a .bytes .now) (c .bare2 .result) (c .before .before .before .before .before .keep .last .0) (c .before .before .before .before .before .keep .last .1 .0) (c .before .before .before .before .before .before .before .before .before .before .before .grown .result) (c .before .before .before .before .before .before .wide8 .result) (omega arith) (c .before .before .before .before .before .before .before .before .before .before .before .grown .ensures) w (c .before .before .before .before .before .before .wide8 .ensures .0) (c .before .before .before .before .before .keep .ensures .0) (c .before .before .before .before .before .keep .ensures .1) (c .bare2 .ensures)
+    put-kept (a .rec .now) (a .room .now) (a .out .now) (a .i) (a .h) (a .l) (a .bytes .now) (c .bare2 .result) (c .before .before .before .before .before .keep .last .0) (c .before .before .before .before .before .keep .last .1 .0) (c .before .before .before .before .before .before .before .before .before .before .before .grown .result) (c .before .before .before .before .before .before .wide8 .result) (omega arith) (c .before .before .before .before .before .before .before .before .before .before .before .grown .ensures) (sym (c .before .before .before .before .before .before .before .before .before .before .is-whole .ensures) ∙ c .before .before .before .before .before .before .before .before .before .if2 .left) (c .before .before .before .before .before .before .wide8 .ensures .0) (c .before .before .before .before .before .keep .ensures .0) (c .before .before .before .before .before .keep .ensures .1) (c .bare2 .ensures)
 
 pub put-spec : {M : Type 1} → statement M
 put-spec =

@@ -1,8 +1,4 @@
-use mathlib.Core.Path.{_≡_, refl, sym, ap, _∙_}
-use mathlib.Core.Bool.{true, false}
-use Rattle.reassembly.specs.Record.{headAt}
-use Rattle.reassembly.specs.Judge.{isOld}
-use Rattle.reassembly.specs.Calls.{sweptAt}
+use Rattle.reassembly.proofs.Branches.{swept-old, swept-young}
 use borrow.Author.Needs.{needs}
 use Rattle.reassembly.proofs.sweep_one.Statement.{statement}
 use Rattle.reassembly.proofs.sweep_one.Tie as tie
@@ -23,21 +19,17 @@ same-length : tie.Need-same-length
 same-length c = search needs
 
 returns : tie.Need-returns
-unfolding sweptAt
-returns c =
+returns c = 
     let a = c .before .before .before .before .before .before .before .before .before .before .args in
-    let t : isOld (a .second) (headAt (a .rec .now) (a .i)) ≡ true = cc in
-    rw t (cc)
+    swept-old (a .rec .now) (c .before .before .save-head .last .0) (a .i) (a .second) (c .before .before .before .before .before .before .before .load-head .result) (c .before .before .before .no-head .result) (c .before .before .before .before .before .before .is-old .result) (c .before .before .before .before .before .before .before .load-head .ensures) (c .before .before .before .before .before .before .is-old .ensures) (c .before .before .before .before .before .if1 .taken) (c .before .before .before .no-head .ensures) (c .before .before .save-head .ensures)
 
 same-length-2 : tie.Need-same-length-2
 same-length-2 c = search needs
 
 returns-2 : tie.Need-returns-2
-unfolding sweptAt
-returns-2 c =
+returns-2 c = 
     let a = c .before .before .before .before .before .args in
-    let t : isOld (a .second) (headAt (a .rec .now) (a .i)) ≡ false = cc in
-    rw t refl
+    swept-young (a .rec .now) (a .i) (a .second) (c .before .before .load-head .result) (c .before .is-old .result) (c .before .before .load-head .ensures) (c .before .is-old .ensures) (c .if1 .left)
 
 pub sweep-one-spec : {M : Type 1} → statement M
 sweep-one-spec =
