@@ -31,7 +31,7 @@ same-length-2 : tie.Need-same-length-2
 same-length-2 c = search needs
 
 returns : tie.Need-returns
-returns c = 
+returns c =
     let a = c .before .before .before .before .before .before .before .before .before .before .before .before .before .before .before .before .args in
     kept-is (a .rec .now) (c .before .before .before .before .before .before .save-entry .last .0) (c .before .before .save-head .last .0) (a .room .now) (c .before .before .before .before .before .before .before .before .before .before .copy-to .last .0) (a .i) (a .k) (a .total) (a .g) (a .bytes .now) (c .before .before .before .before .before .before .before .before .before .before .before .wide16 .result) (c .before .before .before .before .before .before .before .before .before .before .before .wide16 .ensures .0) (c .before .before .before .before .before .before .before .before .before .before .copy-to .ensures) (c .before .before .before .before .before .before .save-entry .ensures) (c .before .before .save-head .ensures)
 

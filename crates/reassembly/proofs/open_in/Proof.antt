@@ -37,7 +37,7 @@ same-length-2 : tie.Need-same-length-2
 same-length-2 c = search needs
 
 returns : tie.Need-returns
-returns c = 
+returns c =
     let a = c .before .before .before .before .before .before .before .before .before .before .before .before .before .before .before .before .before .args in
     opened-kept (a .rec .now) (a .room .now) (c .before .before .before .before .before .before .before .before .before .before .before .before .clear-entries .last .0) (c .before .before .before .before .keep .last .0) (c .before .before .before .before .keep .last .1 .0) (a .i) (c .before .before .before .before .before .wide8 .result) (a .second) (a .l) (c .before .before .before .before .before .before .before .before .before .new-head .result) (c .before .before .before .before .before .before .before .before .grown .result) (a .bytes .now) (c .before .before .before .before .before .before .before .before .before .before .before .before .clear-entries .ensures) (c .before .before .before .before .before .before .before .before .before .new-head .ensures) (c .before .before .before .before .before .before .before .before .grown .ensures) (c .before .before .before .before .before .wide8 .ensures .0) (c .before .before .before .before .keep .ensures .0) (c .before .before .before .before .keep .ensures .1)
 

@@ -38,7 +38,7 @@ is-whole-requires : tie.Need-is-whole-requires
 is-whole-requires c κs = search needs
 
 finish-requires : tie.Need-finish-requires
-finish-requires c κs = 
+finish-requires c κs =
     (search needs, search needs, search needs, whole-last (c .before .before .before .before .before .grown .result) (sym (c .before .before .before .before .is-whole .ensures) ∙ c .before .before .before .if2 .taken), search needs)
 
 same-length : tie.Need-same-length
@@ -51,7 +51,7 @@ same-length-3 : tie.Need-same-length-3
 same-length-3 c = search needs
 
 returns-2 : tie.Need-returns-2
-returns-2 c = 
+returns-2 c =
     let a = c .before .before .before .before .before .before .before .before .before .before .before .before .before .before .before .before .before .args in
     put-whole (a .rec .now) (a .room .now) (a .out .now) (a .i) (a .h) (a .l) (a .bytes .now) (after (c .before .before .before .before .finish .result) (c .before .before .before .before .finish .last .0) (a .room .now) (c .before .before .before .before .finish .last .1 .1 .0)) (c .before .before .before .before .before .before .before .before .before .before .grown .result) (search needs) (c .before .before .before .before .before .before .before .before .before .before .grown .ensures) (sym (c .before .before .before .before .before .before .before .before .before .is-whole .ensures) ∙ c .before .before .before .before .before .before .before .before .if2 .taken) (c .before .before .before .before .finish .ensures)
 
@@ -71,7 +71,7 @@ same-length-5 : tie.Need-same-length-5
 same-length-5 c = search needs
 
 returns-3 : tie.Need-returns-3
-returns-3 c = 
+returns-3 c =
     let a = c .before .before .before .before .before .before .before .before .before .before .before .before .before .before .before .before .before .before .args in
     put-kept (a .rec .now) (a .room .now) (a .out .now) (a .i) (a .h) (a .l) (a .bytes .now) (c .bare2 .result) (c .before .before .before .before .before .keep .last .0) (c .before .before .before .before .before .keep .last .1 .0) (c .before .before .before .before .before .before .before .before .before .before .before .grown .result) (c .before .before .before .before .before .before .wide8 .result) (omega arith) (c .before .before .before .before .before .before .before .before .before .before .before .grown .ensures) (sym (c .before .before .before .before .before .before .before .before .before .before .is-whole .ensures) ∙ c .before .before .before .before .before .before .before .before .before .if2 .left) (c .before .before .before .before .before .before .wide8 .ensures .0) (c .before .before .before .before .before .keep .ensures .0) (c .before .before .before .before .before .keep .ensures .1) (c .bare2 .ensures)
 

@@ -19,7 +19,7 @@ same-length : tie.Need-same-length
 same-length c = search needs
 
 returns : tie.Need-returns
-returns c = 
+returns c =
     let a = c .before .before .before .before .before .before .before .before .before .before .args in
     swept-old (a .rec .now) (c .before .before .save-head .last .0) (a .i) (a .second) (c .before .before .before .before .before .before .before .load-head .result) (c .before .before .before .no-head .result) (c .before .before .before .before .before .before .is-old .result) (c .before .before .before .before .before .before .before .load-head .ensures) (c .before .before .before .before .before .before .is-old .ensures) (c .before .before .before .before .before .if1 .taken) (c .before .before .before .no-head .ensures) (c .before .before .save-head .ensures)
 
@@ -27,7 +27,7 @@ same-length-2 : tie.Need-same-length-2
 same-length-2 c = search needs
 
 returns-2 : tie.Need-returns-2
-returns-2 c = 
+returns-2 c =
     let a = c .before .before .before .before .before .args in
     swept-young (a .rec .now) (a .i) (a .second) (c .before .before .load-head .result) (c .before .is-old .result) (c .before .before .load-head .ensures) (c .before .is-old .ensures) (c .if1 .left)
 
