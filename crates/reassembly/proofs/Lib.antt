@@ -17,3 +17,4 @@ pub mod Refines
 pub mod Fresh
 pub mod Steps
 pub mod Sweeps
+pub mod Refusals

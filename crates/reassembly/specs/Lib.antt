@@ -6,3 +6,4 @@ pub mod Message
 pub mod Judge
 pub mod Calls
 pub mod Stands
+pub mod Careful
