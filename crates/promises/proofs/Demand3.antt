@@ -1,21 +1,20 @@
 -- Demand 3, proved. Assumes nothing.
-use mathlib.Core.Path.{_≡_, refl, sym, ap, _∙_, subst}
+use mathlib.Core.Path.{_≡_, refl, sym, ap, _∙_}
 use mathlib.Core.Logic.{_≢_}
-use mathlib.Core.Bool.{Bool, true, false, cond, not, _&&_, _||_, true≢false, false≢true}
-use mathlib.Core.List.{List, [], _∷_, _++_, map}
+use mathlib.Core.Bool.{Bool, true, false, cond, not, _&&_, false≢true}
+use mathlib.Core.List.{List, [], _∷_}
 use mathlib.Core.Option.{Option, none, some}
 use Prim.Native.Nat.{ℕ, zero, suc, _+_, _-_, _≤_, _<_}
 use native.Mathlib.Omega.{arith}
 use native.Mathlib.Decide.{ℕ-discrete}
 use lib.ListN.{length, getD, set, length-set, replicate, length-replicate, length-map, List·getD-map}
 use lib.Seq.{getD-set-same, getD-set-other, ext-getD}
-use lib.Dec.{eqb}
 use borrow.Author.Tests.{eq-eqb, ne-eqb}
 use Rattle.reassembly.specs.Store.{Message, Store, empty}
-use Rattle.promises.specs.Demand3.{Cut, Within, noCut, Event, deliver, tidy, Tally, noTally, anyMark, allMarks, begun, done, isOpen, marked, untouched, start, note, count, Allowed, Orderly, Schedule, Said, dueOne, due, act, saidOf, said, final, timesOne, times, Outcome, Demand3}
+use Rattle.promises.specs.Demand3.{Cut, Within, noCut, Event, deliver, tidy, Tally, noTally, allMarks, begun, done, isOpen, marked, untouched, start, note, count, Allowed, Orderly, Schedule, dueOne, due, act, saidOf, said, final, timesOne, times, Demand3}
 use Rattle.promises.proofs.Demand3Marks.{any-replicate, set-mark}
-use Rattle.promises.proofs.Demand3Places.{isFull, none≢some}
-use Rattle.promises.proofs.Demand3Invariant.{cutAt, tallyAt, Owned, Placed, Inv, delivered, tidied}
+use Rattle.promises.proofs.Demand3Places.{none≢some}
+use Rattle.promises.proofs.Demand3Invariant.{cutAt, tallyAt, Owned, Inv, delivered, tidied}
 
 -- At the start nothing is open.
 start-at : (cs : List Cut) (c : ℕ) → tallyAt (start cs) c ≡ untouched (cutAt cs c)

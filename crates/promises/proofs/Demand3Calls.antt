@@ -1,18 +1,16 @@
 -- Demand 3 of the calls, carried over from the store by the calls' promises. Assumes nothing.
 use mathlib.Core.Path.{_≡_, refl, sym, ap, _∙_, subst}
 use mathlib.Core.List.{List, [], _∷_, map}
-use mathlib.Core.Option.{Option, none, some}
-use Prim.Native.Nat.{ℕ, zero, suc, _≤_, _<_}
+use Prim.Native.Nat.{ℕ, zero, suc, _<_}
 use native.Mathlib.Omega.{arith}
 use lib.ListN.{length, getD}
-use Rattle.reassembly.specs.declared.Reply.{Reply}
-use Rattle.reassembly.specs.Store.{Piece, first, follow, Store, empty, Answer, step, sweep}
-use Rattle.reassembly.specs.Calls.{After, after, bare, swept, renewed}
+use Rattle.reassembly.specs.Store.{Piece, first, follow, Store, empty, step}
+use Rattle.reassembly.specs.Calls.{renewed}
 use Rattle.reassembly.specs.Stands.{stands, Made, Agrees, labelOf, replyFor, laidOut}
 use Rattle.reassembly.proofs.Steps.{Fits, first-agrees, follow-agrees}
 use Rattle.reassembly.proofs.Sweeps.{sweep-stands, sweep-made, new-stands, new-made}
-use Rattle.promises.specs.Demand3.{Cut, Within, pieceOf, noCut, Event, deliver, tidy, start, Schedule, Said, due, times, act, saidOf, said, final, Outcome}
-use Rattle.promises.specs.Demand3Calls.{pieceCall, called, calls, lastly, replyDue, buffersDue, secondOf, Narrow, OutcomeOfCalls, Demand3Calls}
+use Rattle.promises.specs.Demand3.{Cut, pieceOf, noCut, Event, deliver, tidy, start, due, times, act, saidOf, said, final, Outcome}
+use Rattle.promises.specs.Demand3Calls.{pieceCall, called, calls, lastly, replyDue, buffersDue, secondOf, Demand3Calls}
 use Rattle.promises.proofs.Demand3.{demand3}
 
 piece-agrees : (rec room out : List ℕ) → Made rec room → (p : Piece) (second : ℕ) → Fits p second → Agrees out (pieceCall rec room out p second) (step (length out) (stands rec room) p second)

@@ -1,9 +1,9 @@
 -- Case (l) of document 01, and a schedule that keeps the rules of demand 3, found so by computation. Assumes nothing.
 use mathlib.Core.Path.{_≡_, refl, sym, ap, _∙_}
-use mathlib.Core.Bool.{Bool, true, false, cond, not, _&&_, _||_, true≢false, false≢true}
+use mathlib.Core.Bool.{Bool, true, false, not, _&&_, false≢true}
 use mathlib.Core.List.{List, [], _∷_}
-use mathlib.Core.Option.{Option, none, some}
-use Prim.Native.Nat.{ℕ, zero, suc, _+_, _≤_, _<_}
+use mathlib.Core.Option.{none, some}
+use Prim.Native.Nat.{ℕ, zero, suc, _+_, _<_}
 use native.Mathlib.Nat.{not-suc-le-zero}
 use native.Mathlib.Omega.{arith}
 use native.Mathlib.Decide.{ℕ-discrete}
@@ -11,8 +11,8 @@ use lib.ListN.{length, getD, List·getD-eq-default}
 use lib.Dec.{eqb, ltb, leb}
 use borrow.Author.Tests.{ltb-true, ltb-false, leb-true, eqb-true, eq-eqb, not-true}
 use Rattle.wire.specs.Parts.{same}
-use Rattle.reassembly.specs.Store.{Piece, first, follow, Message, Store, empty, Whole, Answer, total, joined, idOf, numberOf, finalOf, bytesOf, findId, findFree, placeOf, messageOr, plus, badLength, badNumber, repeats, clashes, tooMuch, complete, wholeOf, tooShort, refused, answer, step, sweptOne, sweep}
-use Rattle.promises.specs.Demand3.{Cut, Within, pieceOf, cutFrom, noCut, Event, deliver, tidy, Tally, noTally, begun, done, isOpen, marked, untouched, start, note, count, Allowed, Orderly, Schedule, Said, dueOne, due, act, saidOf, said, final, times, Outcome}
+use Rattle.reassembly.specs.Store.{empty, total, idOf, numberOf, finalOf, bytesOf, findId, findFree, placeOf, messageOr, plus, badLength, badNumber, repeats, clashes, tooMuch, complete, wholeOf, tooShort, refused, answer, step, sweptOne, sweep}
+use Rattle.promises.specs.Demand3.{Cut, Within, noCut, Event, deliver, tidy, Tally, noTally, begun, done, isOpen, marked, untouched, start, note, count, Allowed, Orderly, Schedule, act, saidOf, said, Outcome}
 use Rattle.promises.proofs.Demand3.{demand3}
 
 -- Tests that compute: whether cuts are within the limits, and whether a schedule keeps the rules

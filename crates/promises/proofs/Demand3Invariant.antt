@@ -2,18 +2,17 @@
 -- its place; and an event of the schedule keeps this and answers what is due. Assumes nothing.
 use mathlib.Core.Path.{_≡_, refl, sym, ap, _∙_, subst}
 use mathlib.Core.Logic.{_≢_}
-use mathlib.Core.Bool.{Bool, true, false, cond, not, _&&_, _||_, true≢false, false≢true}
-use mathlib.Core.List.{List, [], _∷_, _++_, map}
+use mathlib.Core.Bool.{Bool, true, false, cond, not, _&&_, true≢false, false≢true}
+use mathlib.Core.List.{List}
 use mathlib.Core.Option.{Option, none, some}
 use Prim.Native.Nat.{ℕ, zero, suc, _+_, _-_, _≤_, _<_}
 use native.Mathlib.Omega.{arith}
 use native.Mathlib.Decide.{ℕ-discrete}
 use lib.ListN.{length, getD, set, length-set}
 use lib.Seq.{getD-set-same, getD-set-other, set-getD}
-use lib.Dec.{eqb, ltb, leb}
-use borrow.Author.Tests.{eq-eqb, ne-eqb, lt-ltb, le-ltb}
-use Rattle.reassembly.specs.Store.{Piece, Message, Store, Whole, Answer, idOf, findId, findFree, placeOf, messageOr, plus, refused, answer, step, sweep}
-use Rattle.promises.specs.Demand3.{Cut, Within, pieceOf, cutFrom, noCut, Event, deliver, tidy, Tally, noTally, anyMark, allMarks, begun, done, isOpen, marked, note, count, Allowed, Orderly, Said, dueOne, act, saidOf}
+use borrow.Author.Tests.{lt-ltb, le-ltb}
+use Rattle.reassembly.specs.Store.{Message, Store, findId, findFree, placeOf, messageOr, plus, refused, answer, step}
+use Rattle.promises.specs.Demand3.{Cut, Within, pieceOf, cutFrom, noCut, deliver, tidy, Tally, noTally, anyMark, allMarks, begun, done, isOpen, marked, note, count, Allowed, Orderly, dueOne, act, saidOf}
 use Rattle.promises.proofs.Demand3Marks.{none-at, not-all-at, any-set, any-at, set-mark, count-set}
 use Rattle.promises.proofs.Demand3Rebuilt.{Holds, holds-new, holds-plus, id-piece}
 use Rattle.promises.proofs.Demand3Places.{isFull, none≢some, Hit, find-hit, find-miss, free-is, free-inside, sweep-same, answer-repeat, answer-kept, answer-finished}

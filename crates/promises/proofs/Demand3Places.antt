@@ -1,16 +1,16 @@
 -- The places of a store: where a piece goes, and the answer to a piece of a cut message there. Assumes nothing.
-use mathlib.Core.Path.{_≡_, refl, sym, ap, _∙_, subst}
+use mathlib.Core.Path.{_≡_, refl, ap, _∙_}
 use mathlib.Core.Logic.{_≢_}
-use mathlib.Core.Bool.{Bool, true, false, cond, not, _&&_, _||_, true≢false, false≢true}
-use mathlib.Core.List.{List, [], _∷_, _++_, map}
+use mathlib.Core.Bool.{Bool, true, false, cond}
+use mathlib.Core.List.{List, [], _∷_}
 use mathlib.Core.Option.{Option, none, some}
 use Prim.Native.Nat.{ℕ, zero, suc, _+_, _-_, _≤_, _<_}
-use native.Mathlib.Nat.{not-suc-le-zero, le-of-suc-le-suc}
+use native.Mathlib.Nat.{not-suc-le-zero}
 use native.Mathlib.Omega.{arith}
 use lib.ListN.{length, getD, set, length-set}
-use lib.Dec.{eqb, ltb, leb}
-use borrow.Author.Tests.{eq-eqb, ne-eqb, lt-ltb, le-ltb, lt-leb, le-leb, eqb-true, eqb-false}
-use Rattle.reassembly.specs.Store.{Piece, Message, Store, Whole, Answer, findId, findFree, placeOf, messageOr, plus, badLength, badNumber, repeats, clashes, tooMuch, complete, wholeOf, tooShort, refused, answer, sweptOne, sweep}
+use lib.Dec.{eqb}
+use borrow.Author.Tests.{ne-eqb, lt-leb, eqb-true, eqb-false}
+use Rattle.reassembly.specs.Store.{Message, Store, findId, findFree, plus, complete, refused, answer, sweptOne, sweep}
 use Rattle.promises.specs.Demand3.{Cut, Within, pieceOf, cutFrom, allMarks, count}
 use Rattle.promises.proofs.Demand3Rebuilt.{Holds, good-length, good-number, repeats-marked, no-repeat, no-clash, not-too-much, holds-plus, complete-holds, whole-holds, long-enough}
 

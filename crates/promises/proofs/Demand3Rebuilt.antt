@@ -1,17 +1,17 @@
 -- One message: what a slot holds when some of a cut message's pieces were delivered, and what it does with one more of them. Assumes nothing.
-use mathlib.Core.Path.{_≡_, refl, sym, ap, _∙_, subst}
+use mathlib.Core.Path.{_≡_, refl, sym, ap, _∙_}
 use mathlib.Core.Logic.{_≢_}
-use mathlib.Core.Bool.{Bool, true, false, cond, not, _&&_, _||_, Bool·beq, true≢false, false≢true}
-use mathlib.Core.List.{List, [], _∷_, _++_}
-use mathlib.Core.Option.{Option, none, some}
+use mathlib.Core.Bool.{Bool, true, false, cond, _&&_, _||_, Bool·beq, false≢true}
+use mathlib.Core.List.{List, []}
+use mathlib.Core.Option.{none}
 use Prim.Native.Nat.{ℕ, zero, suc, _+_, _-_, _≤_, _<_}
 use native.Mathlib.Omega.{arith}
-use lib.ListN.{length, getD, take, drop, set, replicate, length-set, length-take, length-replicate, List·getD-eq-default, getD-replicate}
+use lib.ListN.{length, getD, take, drop, set, replicate, length-set, length-replicate, List·getD-eq-default}
 use lib.Seq.{getD-set-same, getD-set-other, getD-drop, getD-take, ext-getD, length-take-le}
-use lib.Dec.{eqb, ltb, leb}
+use lib.Dec.{eqb, ltb}
 use native.Mathlib.Decide.{ℕ-discrete}
-use borrow.Author.Tests.{eq-eqb, ne-eqb, lt-ltb, le-ltb, lt-leb, le-leb, eqb-true, eqb-false}
-use Rattle.reassembly.specs.Store.{Piece, first, follow, Message, Whole, idOf, numberOf, finalOf, bytesOf, isHeld, allHeld, someHeld, total, joined, messageOr, plus, badLength, badNumber, repeats, clashes, tooMuch, complete, wholeOf, tooShort}
+use borrow.Author.Tests.{eq-eqb, ne-eqb, lt-ltb, le-ltb, eqb-true, eqb-false}
+use Rattle.reassembly.specs.Store.{Message, Whole, idOf, numberOf, finalOf, bytesOf, isHeld, allHeld, someHeld, total, joined, messageOr, plus, badLength, badNumber, repeats, clashes, tooMuch, complete, wholeOf, tooShort}
 use Rattle.promises.specs.Demand3.{Cut, Within, pieceOf, cutFrom, anyMark, allMarks}
 use Rattle.reassembly.proofs.Table.{held-of-length, total-set, total-le, length-joined, none-held}
 use Rattle.promises.proofs.Demand3Marks.{all-at, not-all-at, none-at, all-held}

@@ -6,7 +6,7 @@ use mathlib.Core.Option.{Option, none, some}
 use Prim.Native.Nat.{ℕ, zero, suc, _+_, _≤_, _<_}
 use lib.ListN.{length, getD, set, replicate}
 use lib.Dec.{eqb}
-use Rattle.reassembly.specs.Store.{Piece, first, follow, Message, Store, empty, Whole, Answer, total, joined, step, sweep}
+use Rattle.reassembly.specs.Store.{Piece, first, follow, Store, empty, Whole, Answer, total, joined, step, sweep}
 
 -- A message that was cut: its id, its head, and its pieces in order. The bytes it was cut from are `joined pieces`.
 pub record Cut : Type 0 where

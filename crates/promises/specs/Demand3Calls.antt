@@ -1,7 +1,6 @@
 -- Demand 3 of the calls: the schedules of specs/Demand3.antt, delivered to first_fragment, follow_on_fragment and sweep on lent bytes.
 -- `firstCall`, `followOnCall`, `swept` and `renewed` are what the contracts of these calls, and of new, say of every record, room and buffer.
 use mathlib.Core.Path.{_≡_}
-use mathlib.Core.Bool.{cond}
 use mathlib.Core.List.{List, [], _∷_, map}
 use Prim.Native.Nat.{ℕ, suc, _≤_, _<_}
 use lib.ListN.{length, getD}

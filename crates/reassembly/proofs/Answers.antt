@@ -1,29 +1,22 @@
 -- The store's answer to a piece, read off the head, the entries and the pieces of its slot. Assumes nothing.
-use mathlib.Core.Path.{_≡_, refl, sym, ap, _∙_, subst}
+use mathlib.Core.Path.{_≡_, refl, sym, ap, _∙_}
 use mathlib.Core.Logic.{_≢_}
-use mathlib.Core.Bool.{Bool, true, false, cond, not, _&&_, _||_, Bool·beq, false≢true, true≢false}
-use mathlib.Core.List.{List, [], _∷_}
-use mathlib.Core.Option.{Option, none, some}
-use Prim.Native.Nat.{ℕ, zero, suc, _+_, _*_, _≤_, _<_}
+use mathlib.Core.Bool.{Bool, true, false, cond, _&&_, _||_, Bool·beq, true≢false}
+use mathlib.Core.List.{List, []}
+use Prim.Native.Nat.{ℕ, suc, _+_, _≤_, _<_}
 use native.Mathlib.Omega.{arith}
-use native.Mathlib.Numerals.{add-one}
-use native.Mathlib.Decide.{ℕ-discrete}
-use lib.Dec.{eqb, ltb, leb}
-use lib.ListN.{length, getD, set, take, drop}
-use borrow.Author.Tests.{eq-eqb, ne-eqb, eqb-true, eqb-false, lt-ltb, le-ltb, ltb-true, ltb-false, lt-leb, le-leb}
+use lib.Dec.{eqb, ltb}
+use lib.ListN.{length, getD, set, drop}
+use borrow.Author.Tests.{ltb-false}
 use Rattle.wire.specs.Parts.{same}
 use Rattle.reassembly.specs.declared.record.Head.{Head}
-use Rattle.reassembly.specs.declared.judge.Label.{Label}
-use Rattle.reassembly.specs.Store.{Piece, first, follow, idOf, numberOf, finalOf, bytesOf, Message, Store, Whole, Answer, isHeld, someHeld, total, joined, plus, badLength, badNumber, repeats, clashes, tooMuch, complete, wholeOf, tooShort, refused, answer}
-use Rattle.reassembly.specs.Record.{headAt, entryAt, pieceAt}
-use Rattle.reassembly.specs.Judge.{pick, sameLabel, misfits, grownBy, isWhole}
-use Rattle.reassembly.specs.Message.{pieceOr, upTo, messageOf}
-use Rattle.reassembly.specs.Calls.{badSize, keptRec, keptRoom}
-use Rattle.reassembly.specs.Stands.{series, tableAt, messageWith, Fine, labelOf}
-use Rattle.reassembly.proofs.Joined.{piece-given, piece-held}
-use Rattle.reassembly.proofs.Series.{series-set}
-use Rattle.reassembly.proofs.Held.{some-above, joined-series}
-use Rattle.reassembly.proofs.Kept.{table-at, held-is, complete-is, kept-fine, table-kept}
+use Rattle.reassembly.specs.Store.{Piece, first, follow, idOf, numberOf, finalOf, bytesOf, isHeld, someHeld, total, plus, badLength, badNumber, repeats, clashes, tooMuch}
+use Rattle.reassembly.specs.Record.{pieceAt}
+use Rattle.reassembly.specs.Judge.{pick, sameLabel, misfits, grownBy}
+use Rattle.reassembly.specs.Calls.{badSize}
+use Rattle.reassembly.specs.Stands.{tableAt, messageWith, Fine, labelOf}
+use Rattle.reassembly.proofs.Held.{some-above}
+use Rattle.reassembly.proofs.Kept.{table-at}
 
 -- ---- a piece and its label
 

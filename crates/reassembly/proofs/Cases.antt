@@ -1,10 +1,9 @@
 -- Case (l) of document 01, computed. Assumes nothing.
 use mathlib.Core.Path.{_≡_, refl}
 use mathlib.Core.Bool.{true, false}
-use mathlib.Core.List.{List, [], _∷_}
-use Prim.Native.Nat.{ℕ}
+use mathlib.Core.List.{[], _∷_}
 use Rattle.wire.specs.Parts.{same}
-use Rattle.reassembly.specs.Store.{Piece, first, follow, Store, empty, numbers, idOf, numberOf, finalOf, bytesOf, findId, findFree, placeOf, messageOr, plus, badLength, badNumber, repeats, clashes, tooMuch, complete, wholeOf, tooShort, refused, answer, step}
+use Rattle.reassembly.specs.Store.{first, follow, empty, numbers, idOf, numberOf, finalOf, bytesOf, findId, findFree, placeOf, messageOr, plus, badLength, badNumber, repeats, clashes, tooMuch, complete, wholeOf, tooShort, refused, answer, step}
 
 -- Pieces 0, 2 last, 5, 1: 0, 0, 55, 60
 pub case-l :

@@ -1,23 +1,22 @@
 -- A slot with nothing held: what a message that is opened now stands for. Assumes nothing.
 use mathlib.Core.Path.{_≡_, refl, sym, ap, _∙_, subst}
-use mathlib.Core.Bool.{Bool, true, false, cond, not, _&&_, _||_, false≢true, true≢false}
+use mathlib.Core.Bool.{Bool, true, false, _&&_, false≢true}
 use mathlib.Core.List.{List, [], _∷_}
 use mathlib.Core.Option.{none}
 use Prim.Native.Nat.{ℕ, zero, suc, _+_, _≤_, _<_}
 use native.Mathlib.Omega.{arith}
 use lib.Dec.{eqb, ltb}
 use lib.ListN.{length, getD, replicate}
-use borrow.Author.Tests.{ne-eqb, lt-ltb, le-ltb, ltb-true, ltb-false}
+use borrow.Author.Tests.{ne-eqb, le-ltb, ltb-true}
 use Rattle.wire.specs.Parts.{part}
-use Rattle.reassembly.specs.declared.record.Head.{Head}
 use Rattle.reassembly.specs.declared.record.Entry.{Entry}
 use Rattle.reassembly.specs.declared.judge.Label.{Label}
 use Rattle.reassembly.specs.Store.{Piece, idOf, Message, isHeld, total, messageOr}
-use Rattle.reassembly.specs.Record.{entryAt, cleared, roomOf, pieceAt}
+use Rattle.reassembly.specs.Record.{cleared, roomOf, pieceAt}
 use Rattle.reassembly.specs.Judge.{pick, misfits, moreOf, grownBy, isWhole, newHead}
 use Rattle.reassembly.specs.Stands.{series, tableAt, messageWith, heldOf, Fine, labelOf}
 use Rattle.reassembly.proofs.Series.{series-same}
-use Rattle.reassembly.proofs.Written.{noEntry, cleared-entry}
+use Rattle.reassembly.proofs.Written.{cleared-entry}
 use Rattle.reassembly.proofs.Answers.{label-id}
 
 series-const : {A : Type 0} (x : A) (i n : ℕ) → series (λ k. x) i n ≡ replicate n x

@@ -1,32 +1,31 @@
 -- A slot whose head agrees with its entries: what its pieces are, whether its message is complete, and that a kept piece keeps the agreement. Assumes nothing.
-use mathlib.Core.Path.{_≡_, refl, sym, ap, _∙_, subst}
+use mathlib.Core.Path.{_≡_, refl, sym, ap, _∙_}
 use mathlib.Core.Logic.{_≢_}
-use mathlib.Core.Bool.{Bool, true, false, cond, not, _&&_, _||_, false≢true, true≢false}
-use mathlib.Core.List.{List, [], _∷_}
-use mathlib.Core.Option.{Option, none, some}
-use Prim.Native.Nat.{ℕ, zero, suc, _+_, _-_, _*_, _≤_, _<_}
+use mathlib.Core.Bool.{Bool, true, false, not, _&&_, _||_, true≢false}
+use mathlib.Core.List.{List, []}
+use Prim.Native.Nat.{ℕ, suc, _+_, _-_, _≤_, _<_}
 use native.Mathlib.Omega.{arith}
 use native.Mathlib.Decide.{ℕ-discrete}
-use lib.Dec.{eqb, ltb, leb}
-use lib.ListN.{length, getD, take, drop, set, length-set}
+use lib.Dec.{eqb, ltb}
+use lib.ListN.{length, getD, take, set}
 use lib.Seq.{getD-set-same, getD-set-other}
-use borrow.Author.Tests.{eq-eqb, ne-eqb, eqb-true, eqb-false, lt-ltb, le-ltb, ltb-true, ltb-false}
-use Rattle.wire.specs.Parts.{part, splice}
+use borrow.Author.Tests.{lt-ltb, ltb-true, ltb-false}
+use Rattle.wire.specs.Parts.{part}
 use Rattle.wire.proofs.Parts.{part-same, part-before, length-part}
 use Rattle.reassembly.specs.declared.record.Head.{Head}
 use Rattle.reassembly.specs.declared.record.Entry.{Entry}
 use Rattle.reassembly.specs.declared.judge.Label.{Label}
-use Rattle.reassembly.specs.Store.{Message, isHeld, allHeld, total, complete}
-use Rattle.reassembly.specs.Record.{headAt, withHead, entryAt, withEntry, roomOf, pieceAt}
+use Rattle.reassembly.specs.Store.{isHeld, allHeld, total, complete}
+use Rattle.reassembly.specs.Record.{headAt, entryAt, withEntry, roomOf, pieceAt}
 use Rattle.reassembly.specs.Judge.{pick, misfits, moreOf, grownBy, isWhole}
 use Rattle.reassembly.specs.Calls.{keptRec, keptRoom}
-use Rattle.reassembly.specs.Stands.{series, tableAt, messageWith, heldOf, Fine}
+use Rattle.reassembly.specs.Stands.{tableAt, messageWith, heldOf, Fine}
 use Rattle.reassembly.proofs.Table.{total-set, held-of-length}
 use Rattle.reassembly.proofs.Fields.{HeadFits}
 use Rattle.reassembly.proofs.Joined.{length-room}
 use Rattle.reassembly.proofs.Series.{length-series, getD-series, series-set}
 use Rattle.reassembly.proofs.Held.{held-length, not-held, held-le, held-set, all-upto}
-use Rattle.reassembly.proofs.Written.{length-head, head-same, head-entry, length-entry, entry-same, entry-beside, kept-room, length-kept}
+use Rattle.reassembly.proofs.Written.{length-head, head-same, head-entry, length-entry, entry-same, entry-beside, kept-room}
 
 pub length-table : (rec room : List ℕ) (i : ℕ) → length (tableAt rec room i) ≡ 128
 unfolding tableAt

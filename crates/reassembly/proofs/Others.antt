@@ -1,26 +1,26 @@
 -- One slot changed, the others as they were: what the record and the room stand for. Assumes nothing.
 use mathlib.Core.Path.{_≡_, refl, sym, ap, _∙_, subst}
 use mathlib.Core.Logic.{_≢_}
-use mathlib.Core.Bool.{Bool, true, false, cond, false≢true, true≢false}
-use mathlib.Core.List.{List, [], _∷_}
+use mathlib.Core.Bool.{true, false, cond}
+use mathlib.Core.List.{List, []}
 use mathlib.Core.Option.{Option, none, some}
-use Prim.Native.Nat.{ℕ, zero, suc, _+_, _*_, _≤_, _<_}
+use Prim.Native.Nat.{ℕ, _+_, _≤_, _<_}
 use native.Mathlib.Omega.{arith}
 use native.Mathlib.Decide.{ℕ-discrete}
 use lib.Dec.{eqb}
-use lib.ListN.{length, getD, set}
+use lib.ListN.{length, set}
 use Rattle.wire.specs.Parts.{part}
 use Rattle.reassembly.specs.declared.record.Head.{Head}
 use Rattle.reassembly.specs.declared.record.Entry.{Entry}
-use Rattle.reassembly.specs.Store.{Message, Store}
+use Rattle.reassembly.specs.Store.{Message}
 use Rattle.reassembly.specs.Record.{headAt, withHead, entryAt, withEntry, cleared, roomOf, pieceAt}
 use Rattle.reassembly.specs.Slots.{isFree}
 use Rattle.reassembly.specs.Judge.{noHead}
 use Rattle.reassembly.specs.Calls.{keptRec, keptRoom}
-use Rattle.reassembly.specs.Stands.{series, tableAt, messageWith, slotAt, stands, Fine, Made}
+use Rattle.reassembly.specs.Stands.{tableAt, messageWith, slotAt, stands, Fine, Made}
 use Rattle.reassembly.proofs.Fields.{HeadFits}
 use Rattle.reassembly.proofs.Series.{series-same, series-set}
-use Rattle.reassembly.proofs.Written.{length-head, head-same, head-other, head-entry, length-entry, entry-other, entry-head, length-cleared, cleared-head, cleared-other, kept-other}
+use Rattle.reassembly.proofs.Written.{head-same, head-other, head-entry, length-entry, entry-other, entry-head, cleared-head, cleared-other, kept-other}
 
 -- the slots other than i have the same heads, entries and room
 pub record Others (rec room rec′ room′ : List ℕ) (i : ℕ) : Type 0 where

@@ -1,34 +1,32 @@
 -- A piece that is taken: record, room and assembly buffer afterwards stand for the store's step. Assumes nothing.
 use mathlib.Core.Path.{_≡_, refl, sym, ap, _∙_, subst}
 use mathlib.Core.Logic.{_≢_}
-use mathlib.Core.Bool.{Bool, true, false, cond, not, _&&_, _||_, false≢true, true≢false}
-use mathlib.Core.List.{List, [], _∷_}
+use mathlib.Core.Bool.{Bool, true, false, cond, true≢false}
+use mathlib.Core.List.{List, []}
 use mathlib.Core.Option.{Option, none, some}
-use Prim.Native.Nat.{ℕ, zero, suc, _+_, _*_, _≤_, _<_}
+use Prim.Native.Nat.{ℕ, suc, _+_, _≤_, _<_}
 use native.Mathlib.Omega.{arith}
 use native.Mathlib.Numerals.{add-one}
-use lib.Dec.{eqb, ltb, leb}
+use lib.Dec.{eqb, ltb}
 use lib.ListN.{length, getD, set, take}
-use borrow.Author.Tests.{eq-eqb, ne-eqb, eqb-true, eqb-false, lt-ltb, le-ltb, ltb-true, ltb-false, lt-leb, le-leb}
-use Rattle.wire.specs.Parts.{same, splice}
+use borrow.Author.Tests.{ne-eqb, lt-ltb, le-ltb, ltb-false, lt-leb}
 use Rattle.reassembly.specs.declared.record.Head.{Head}
 use Rattle.reassembly.specs.declared.judge.Label.{Label}
-use Rattle.reassembly.specs.declared.Reply.{Reply}
-use Rattle.reassembly.specs.Store.{Piece, bytesOf, Message, Store, Whole, Answer, isHeld, joined, plus, badLength, badNumber, repeats, clashes, tooMuch, complete, wholeOf, tooShort, refused, answer}
-use Rattle.reassembly.specs.Record.{headAt, withHead, entryAt, pieceAt}
+use Rattle.reassembly.specs.Store.{Piece, bytesOf, Message, Store, Answer, isHeld, joined, plus, badLength, badNumber, complete, wholeOf, tooShort, refused, answer}
+use Rattle.reassembly.specs.Record.{headAt, withHead, pieceAt}
 use Rattle.reassembly.specs.Slots.{isFree}
-use Rattle.reassembly.specs.Judge.{sameLabel, again, misfits, moreOf, grownBy, isWhole, noHead}
+use Rattle.reassembly.specs.Judge.{misfits, moreOf, grownBy, isWhole, noHead}
 use Rattle.reassembly.specs.Message.{pieceOr, upTo, messageOf}
-use Rattle.reassembly.specs.Calls.{After, after, bare, keptRec, keptRoom, finished, putIn, added}
+use Rattle.reassembly.specs.Calls.{after, bare, keptRec, keptRoom, finished}
 use Rattle.reassembly.specs.Stands.{series, tableAt, messageWith, slotAt, stands, Fine, Made, labelOf, replyFor, laidOut, Agrees}
 use Rattle.reassembly.proofs.Branches.{good-size}
 use Rattle.reassembly.proofs.Joined.{piece-given, piece-held}
 use Rattle.reassembly.proofs.Series.{series-set}
 use Rattle.reassembly.proofs.Held.{joined-series}
 use Rattle.reassembly.proofs.Written.{length-head, length-kept}
-use Rattle.reassembly.proofs.Kept.{held-is, complete-is, kept-long, kept-head, kept-fine, table-kept}
+use Rattle.reassembly.proofs.Kept.{complete-is, kept-long, kept-head, kept-fine, table-kept}
 use Rattle.reassembly.proofs.Others.{Others, others-both, others-head, others-kept, stands-with, made-with, freed-slot, freed-free}
-use Rattle.reassembly.proofs.Answers.{number-small, repeats-held, repeats-free, clashes-held, clashes-free, too-much, good-length, plus-is}
+use Rattle.reassembly.proofs.Answers.{number-small, repeats-free, clashes-free, too-much, good-length, plus-is}
 
 -- a refusal changes nothing
 pub refusal : (rec room out : List ℕ) (n : ℕ) → Made rec room → Agrees out (after (bare n) rec room out) (refused n (stands rec room))

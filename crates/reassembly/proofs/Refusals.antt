@@ -1,6 +1,6 @@
 -- A refusal changes nothing, and a piece is written to its own slot's room, on every record. Assumes nothing.
 use mathlib.Core.Path.{_≡_, refl}
-use mathlib.Core.Logic.{_⊎_, inl, inr}
+use mathlib.Core.Logic.{inl, inr}
 use mathlib.Core.Bool.{Bool, true, false, cond}
 use mathlib.Core.List.{List}
 use Prim.Native.Nat.{ℕ, _+_, _≤_, _<_}
@@ -16,7 +16,7 @@ use Rattle.reassembly.specs.Slots.{firstFrom, isOpenAs, isFree}
 use Rattle.reassembly.specs.Judge.{misfits, grownBy, isWhole}
 use Rattle.reassembly.specs.Message.{messageOf}
 use Rattle.reassembly.specs.Calls.{After, after, bare, keptRoom, finished, putIn, added, openedIn, openedNow, taken, isShort, badSize, offNumber, firstCall, followOnCall}
-use Rattle.reassembly.specs.Careful.{InSlot, Careful, CarefulFirst, CarefulFollowOn}
+use Rattle.reassembly.specs.Careful.{Careful, CarefulFirst, CarefulFollowOn}
 use Rattle.reassembly.proofs.Branches.{good-size}
 
 module _ (rec room out : List ℕ) where

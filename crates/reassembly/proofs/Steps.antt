@@ -1,18 +1,18 @@
 -- The calls do on record, room and assembly buffer what the store does. Assumes nothing.
 use mathlib.Core.Path.{_≡_, refl, sym, ap, _∙_, subst}
-use mathlib.Core.Bool.{Bool, true, false, cond, not, _&&_, _||_, false≢true, true≢false}
-use mathlib.Core.List.{List, [], _∷_}
-use mathlib.Core.Option.{Option, none, some}
-use Prim.Native.Nat.{ℕ, zero, suc, _+_, _*_, _≤_, _<_}
+use mathlib.Core.Bool.{Bool, true, false, cond, not, _&&_, _||_, false≢true}
+use mathlib.Core.List.{List, []}
+use mathlib.Core.Option.{none, some}
+use Prim.Native.Nat.{ℕ, _+_, _≤_, _<_}
 use native.Mathlib.Omega.{arith}
 use lib.Dec.{eqb, ltb, leb}
 use lib.ListN.{length, getD, set}
-use borrow.Author.Tests.{eq-eqb, ne-eqb, eqb-true, eqb-false, lt-ltb, le-ltb, ltb-true, ltb-false, lt-leb, le-leb, leb-true, leb-false}
+use borrow.Author.Tests.{lt-ltb, le-ltb, ltb-true, ltb-false, le-leb, leb-true, leb-false}
 use Rattle.wire.specs.Parts.{same}
 use Rattle.reassembly.specs.declared.record.Head.{Head}
 use Rattle.reassembly.specs.declared.judge.Label.{Label}
-use Rattle.reassembly.specs.Store.{Piece, first, follow, idOf, bytesOf, Message, Store, Answer, isHeld, findId, findFree, placeOf, messageOr, plus, badLength, badNumber, repeats, clashes, tooMuch, complete, refused, answer, step}
-use Rattle.reassembly.specs.Record.{headAt, withHead, entryAt, pieceAt, cleared}
+use Rattle.reassembly.specs.Store.{Piece, first, follow, idOf, bytesOf, Message, Store, isHeld, findId, findFree, placeOf, messageOr, plus, badLength, badNumber, repeats, clashes, refused, answer, step}
+use Rattle.reassembly.specs.Record.{headAt, entryAt, pieceAt, cleared}
 use Rattle.reassembly.specs.Slots.{firstFrom, isOpenAs, isFree}
 use Rattle.reassembly.specs.Judge.{sameLabel, again, misfits, grownBy, isWhole, newHead}
 use Rattle.reassembly.specs.Calls.{After, after, bare, keptRec, keptRoom, putIn, added, openedIn, openedNow, taken, isShort, badSize, offNumber, firstCall, followOnCall}

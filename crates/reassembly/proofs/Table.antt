@@ -1,12 +1,12 @@
 -- Laws of pieces in a table: held, counted, joined. Assumes nothing.
-use mathlib.Core.Path.{_≡_, refl, sym, ap, _∙_}
-use mathlib.Core.Bool.{Bool, true, false, cond, _&&_, _||_, true≢false, false≢true}
-use mathlib.Core.List.{List, [], _∷_, _++_}
+use mathlib.Core.Path.{_≡_, refl, ap, _∙_}
+use mathlib.Core.Bool.{true, false}
+use mathlib.Core.List.{List, [], _∷_}
 use Prim.Native.Nat.{ℕ, zero, suc, _+_, _≤_, _<_}
 use native.Mathlib.Nat.{not-suc-le-zero, le-of-suc-le-suc}
 use native.Mathlib.Omega.{arith}
 use lib.ListN.{length, getD, set, length-append}
-use Rattle.reassembly.specs.Store.{isHeld, allHeld, someHeld, total, joined}
+use Rattle.reassembly.specs.Store.{isHeld, someHeld, total, joined}
 
 pub held-of-length : (bs : List ℕ) → 1 ≤ length bs → isHeld bs ≡ true
 held-of-length [] h = absurd (not-suc-le-zero h)

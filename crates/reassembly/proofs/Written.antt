@@ -3,19 +3,19 @@ use mathlib.Core.Path.{_≡_, refl, sym, ap, _∙_}
 use mathlib.Core.Logic.{_≢_, _⊎_, inl, inr}
 use mathlib.Core.Bool.{Bool, true, false}
 use mathlib.Core.List.{List, [], _∷_, _++_}
-use Prim.Native.Nat.{ℕ, zero, suc, _+_, _-_, _*_, _/_, _%_, _^_, _≤_, _<_}
+use Prim.Native.Nat.{ℕ, _+_, _-_, _*_, _/_, _%_, _≤_, _<_}
 use native.Mathlib.Omega.{arith}
 use lib.Dec.{ltb}
-use lib.ListN.{length, getD, replicate, length-replicate, getD-replicate, length-append}
+use lib.ListN.{length, replicate, length-replicate, getD-replicate, length-append}
 use lib.Seq.{ext-getD}
 use borrow.Author.Tests.{ltb-true, ltb-false}
 use Rattle.wire.specs.Parts.{part, splice}
-use Rattle.wire.specs.Numbers.{little, littleAt, littleBytes}
-use Rattle.wire.proofs.Parts.{part-same, part-other, part-within, part-left, part-right, part-inside, length-splice, length-part, getD-part}
+use Rattle.wire.specs.Numbers.{little, littleAt}
+use Rattle.wire.proofs.Parts.{part-same, part-other, part-within, part-inside, length-splice, length-part, getD-part}
 use Rattle.wire.proofs.Numbers.{little-append, length-little}
 use Rattle.reassembly.specs.declared.record.Head.{Head}
 use Rattle.reassembly.specs.declared.record.Entry.{Entry}
-use Rattle.reassembly.specs.Record.{headOf, headBytes, entryOf, entryBytes, headAt, withHead, entryAt, withEntry, cleared, roomOf, pieceAt}
+use Rattle.reassembly.specs.Record.{headOf, headBytes, entryOf, entryBytes, headAt, withHead, entryAt, withEntry, cleared, roomOf}
 use Rattle.reassembly.specs.Calls.{keptRoom}
 use Rattle.reassembly.proofs.Fields.{HeadFits, head-written, entry-written}
 

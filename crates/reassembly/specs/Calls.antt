@@ -1,5 +1,5 @@
 -- What the calls do to the bytes that they are lent, on every record, room and buffer. (specs/Stands.antt says what these bytes mean.)
-use mathlib.Core.Bool.{Bool, true, false, cond, _||_}
+use mathlib.Core.Bool.{Bool, cond, _||_}
 use mathlib.Core.List.{List}
 use Prim.Native.Nat.{ℕ, zero, suc, _+_, _*_}
 use lib.Dec.{eqb, ltb, leb}

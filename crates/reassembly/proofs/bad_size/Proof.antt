@@ -1,4 +1,4 @@
-use mathlib.Core.Path.{_≡_, refl, sym, ap, _∙_}
+use mathlib.Core.Path.{refl}
 use Rattle.reassembly.specs.Calls.{badSize}
 use Rattle.reassembly.proofs.bad_size.Statement.{statement}
 use Rattle.reassembly.proofs.bad_size.Tie as tie

@@ -1,4 +1,4 @@
-use mathlib.Core.Path.{_≡_, refl, sym, ap, _∙_}
+use mathlib.Core.Path.{refl}
 use Rattle.reassembly.specs.Calls.{bare}
 use Rattle.reassembly.proofs.bare.Statement.{statement}
 use Rattle.reassembly.proofs.bare.Tie as tie

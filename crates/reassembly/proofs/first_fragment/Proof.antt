@@ -1,7 +1,6 @@
 use Rattle.reassembly.proofs.Steps.{first-promise}
 use mathlib.Core.Path.{sym, _∙_}
-use mathlib.Core.Bool.{true, false}
-use native.Mathlib.Omega.{arith}
+use mathlib.Core.Bool.{false}
 use lib.ListN.{length}
 use Rattle.reassembly.specs.declared.judge.Label.{Label}
 use Rattle.reassembly.specs.Calls.{after}

@@ -1,6 +1,5 @@
 use Rattle.reassembly.proofs.Steps.{follow-promise}
 use mathlib.Core.Path.{sym, _∙_}
-use mathlib.Core.Bool.{true, false}
 use native.Mathlib.Omega.{arith}
 use lib.ListN.{length}
 use Rattle.reassembly.specs.declared.judge.Label.{Label}

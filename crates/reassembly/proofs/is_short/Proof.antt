@@ -1,4 +1,4 @@
-use mathlib.Core.Path.{_≡_, refl, sym, ap, _∙_}
+use mathlib.Core.Path.{refl}
 use Rattle.reassembly.specs.Calls.{isShort}
 use Rattle.reassembly.proofs.is_short.Statement.{statement}
 use Rattle.reassembly.proofs.is_short.Tie as tie

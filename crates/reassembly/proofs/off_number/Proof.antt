@@ -1,4 +1,4 @@
-use mathlib.Core.Path.{_≡_, refl, sym, ap, _∙_}
+use mathlib.Core.Path.{refl}
 use Rattle.reassembly.specs.Calls.{offNumber}
 use Rattle.reassembly.proofs.off_number.Statement.{statement}
 use Rattle.reassembly.proofs.off_number.Tie as tie

@@ -1,6 +1,6 @@
 use Rattle.reassembly.specs.Calls.{after, bare}
 use Rattle.reassembly.proofs.Branches.{opened-52, opened-in}
-use mathlib.Core.Path.{_≡_, refl, sym, ap, _∙_}
+use mathlib.Core.Path.{ap, _∙_}
 use borrow.Author.Needs.{needs}
 use Rattle.reassembly.proofs.open.Statement.{statement}
 use Rattle.reassembly.proofs.open.Tie as tie

@@ -1,10 +1,8 @@
 use Rattle.reassembly.proofs.Branches.{opened-kept}
-use Prim.Native.Nat.{ℕ}
 use Rattle.reassembly.specs.declared.record.Head.{Head}
 use native.Mathlib.Omega.{arith}
 use Rattle.reassembly.specs.Judge.{newHead}
-use mathlib.Core.Path.{_≡_, refl, sym, ap, _∙_}
-use Rattle.reassembly.specs.Calls.{openedIn}
+use mathlib.Core.Path.{_≡_, ap}
 use borrow.Author.Needs.{needs}
 use Rattle.reassembly.proofs.open_in.Statement.{statement}
 use Rattle.reassembly.proofs.open_in.Tie as tie

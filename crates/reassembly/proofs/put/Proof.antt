@@ -1,15 +1,8 @@
 use mathlib.Core.Path.{sym, _∙_}
 use Rattle.reassembly.specs.Calls.{after}
 use Rattle.reassembly.proofs.Branches.{put-53, put-whole, put-kept, whole-last}
-use mathlib.Core.Path.{_≡_, refl, sym, ap, _∙_}
+use mathlib.Core.Path.{sym, _∙_}
 use native.Mathlib.Omega.{arith}
-use lib.ListN.{length}
-use borrow.Author.Tests.{lt-ltb, le-ltb, eq-eqb, ne-eqb, le-leb, lt-leb}
-use mathlib.Core.Bool.{true, false}
-use Prim.Native.Nat.{_+_}
-use lib.Dec.{ltb}
-use Rattle.reassembly.specs.Judge.{grownBy, isWhole}
-use Rattle.reassembly.specs.Calls.{putIn}
 use borrow.Author.Needs.{needs}
 use Rattle.reassembly.proofs.put.Statement.{statement}
 use Rattle.reassembly.proofs.put.Tie as tie

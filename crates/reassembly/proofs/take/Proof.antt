@@ -1,6 +1,5 @@
 use Rattle.reassembly.specs.Calls.{after}
 use Rattle.reassembly.proofs.Branches.{taken-added, taken-opened}
-use mathlib.Core.Path.{_≡_, refl, sym, ap, _∙_}
 use borrow.Author.Needs.{needs}
 use Rattle.reassembly.proofs.take.Statement.{statement}
 use Rattle.reassembly.proofs.take.Tie as tie

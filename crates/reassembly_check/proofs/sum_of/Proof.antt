@@ -1,7 +1,5 @@
 use borrow.Author.Needs.{needs}
-use mathlib.Core.Path.{_≡_}
 use Prim.Native.Nat.{_≤_, _<_, _-_}
-use lib.ListN.{length, length-set}
 use Rattle.reassembly_check.proofs.sum_of.Statement.{statement}
 use Rattle.reassembly_check.proofs.sum_of.Tie as tie
 

@@ -1,6 +1,5 @@
 use borrow.Author.Needs.{needs}
 use Rattle.reassembly.proofs.Ages.{old-early, old-late}
-use Rattle.reassembly.specs.Judge.{isOld}
 use Rattle.reassembly.proofs.judge.is_old.Statement.{statement}
 use Rattle.reassembly.proofs.judge.is_old.Tie as tie
 

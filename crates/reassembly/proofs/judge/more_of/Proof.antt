@@ -1,5 +1,5 @@
 use Rattle.reassembly.specs.Judge.{moreOf}
-use borrow.Author.Tests.{lt-ltb, le-ltb, eq-eqb, ne-eqb, le-leb, lt-leb}
+use borrow.Author.Tests.{lt-ltb, le-ltb}
 use borrow.Author.Needs.{needs}
 use Rattle.reassembly.proofs.judge.more_of.Statement.{statement}
 use Rattle.reassembly.proofs.judge.more_of.Tie as tie

@@ -1,5 +1,5 @@
 use Rattle.reassembly.specs.Judge.{sameLabel}
-use borrow.Author.Tests.{lt-ltb, le-ltb, eq-eqb, ne-eqb, le-leb, lt-leb}
+use borrow.Author.Tests.{eq-eqb, ne-eqb}
 use Rattle.reassembly.proofs.judge.same_label.Statement.{statement}
 use Rattle.reassembly.proofs.judge.same_label.Tie as tie
 

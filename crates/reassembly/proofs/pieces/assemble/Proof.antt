@@ -2,8 +2,8 @@ use borrow.Author.Needs.{needs}
 use native.Mathlib.Omega.{arith}
 use mathlib.Core.List.{List}
 use lib.ListN.{length}
-use mathlib.Core.Path.{_≡_, refl, sym, ap, _∙_}
-use Prim.Native.Nat.{ℕ, _≤_, _-_, _+_, _*_}
+use mathlib.Core.Path.{_≡_, ap, _∙_}
+use Prim.Native.Nat.{ℕ, _≤_, _-_, _+_}
 use Rattle.wire.specs.Parts.{splice}
 use Rattle.reassembly.specs.Message.{pieceOr, upTo, messageOf}
 use Rattle.reassembly.proofs.Joined.{more-length, more-mono, laid-turn}

@@ -1,4 +1,3 @@
-use mathlib.Core.Path.{sym}
 use Rattle.reassembly.specs.Record.{withEntry}
 use Rattle.reassembly.proofs.Fields.{entry-written}
 use borrow.Author.Needs.{needs}
