@@ -3,7 +3,7 @@ use mathlib.Core.Path.{_≡_, refl, sym, ap, _∙_}
 use mathlib.Core.Bool.{Bool, true, false, not, _&&_, false≢true}
 use mathlib.Core.List.{List, [], _∷_}
 use mathlib.Core.Option.{none, some}
-use Prim.Native.Nat.{ℕ, zero, suc, _+_, _<_}
+use Prim.Native.Nat.{ℕ, zero, suc, _+_, _<_, _≤_}
 use native.Mathlib.Nat.{not-suc-le-zero}
 use native.Mathlib.Omega.{arith}
 use native.Mathlib.Decide.{ℕ-discrete}
@@ -13,7 +13,9 @@ use borrow.Author.Tests.{ltb-true, ltb-false, leb-true, eqb-true, eq-eqb, not-tr
 use Rattle.wire.specs.Parts.{same}
 use Rattle.reassembly.specs.Store.{empty, total, idOf, numberOf, finalOf, bytesOf, findId, findFree, placeOf, messageOr, plus, badLength, badNumber, repeats, clashes, tooMuch, complete, wholeOf, tooShort, refused, answer, step, sweptOne, sweep}
 use Rattle.promises.specs.Demand3.{Cut, Within, noCut, Event, deliver, tidy, Tally, noTally, begun, done, isOpen, marked, untouched, start, note, count, Allowed, Orderly, Schedule, act, saidOf, said, Outcome}
+use Rattle.promises.specs.Demand3Calls.{secondOf, OutcomeOfCalls}
 use Rattle.promises.proofs.Demand3.{demand3}
+use Rattle.promises.proofs.Demand3Calls.{demand3-calls}
 
 -- Tests that compute: whether cuts are within the limits, and whether a schedule keeps the rules
 abbrev allBelow : ℕ → (ℕ → Bool) → Bool
@@ -157,3 +159,31 @@ pub example-said :
     ∷ record { number = 60; out = some (record { typ = 2; expires = 902; bytes = 8 ∷ 9 ∷ [] }) } ∷ []
 unfolding act saidOf step answer placeOf findId findFree messageOr plus badLength badNumber repeats clashes tooMuch complete wholeOf tooShort refused idOf numberOf finalOf bytesOf sweep sweptOne same
 example-said = refl
+
+-- The same schedule, delivered to the calls: it meets every premise, with any record, room and assembly buffers of the lent lengths.
+ids-narrow : (c : ℕ) → getD threeCuts c noCut .id < 4294967296
+ids-narrow zero = omega arith
+ids-narrow (suc zero) = omega arith
+ids-narrow (suc (suc zero)) = omega arith
+ids-narrow (suc (suc (suc c))) = omega arith
+
+expirations-narrow : (c : ℕ) → getD threeCuts c noCut .expires < 4294967296
+expirations-narrow zero = omega arith
+expirations-narrow (suc zero) = omega arith
+expirations-narrow (suc (suc zero)) = omega arith
+expirations-narrow (suc (suc (suc c))) = omega arith
+
+-- seconds that are all below a bound
+abbrev allEarly : List Event → Bool
+allEarly [] = true
+allEarly (e ∷ es) = ltb (secondOf e) 18446744073709551616 && allEarly es
+
+early-at : (es : List Event) → allEarly es ≡ true → (n : ℕ) → secondOf (getD es n (tidy 0)) < 18446744073709551616
+early-at [] h n = omega arith
+early-at (e ∷ es) h zero = ltb-true (secondOf e) 18446744073709551616 (both (ltb (secondOf e) 18446744073709551616) (allEarly es) h .0)
+early-at (e ∷ es) h (suc n) = early-at es (both (ltb (secondOf e) 18446744073709551616) (allEarly es) h .1) n
+
+pub example-calls : (outs : ℕ → List ℕ) → ((n : ℕ) → length (outs n) ≡ 65535) → (rec room : List ℕ) → 8576 ≤ length rec → 1048560 ≤ length room → OutcomeOfCalls threeCuts outs rec room mixture
+example-calls outs long rec room lr lm =
+    demand3-calls 65535 (omega arith) outs long rec room lr lm threeCuts within-limits mixture
+    (record { ids = ids-narrow; expirations = expirations-narrow; seconds = early-at mixture refl }) keeps-rules

@@ -4,5 +4,5 @@ pub mod Demand3Rebuilt
 pub mod Demand3Places
 pub mod Demand3Invariant
 pub mod Demand3
-pub mod Demand3Example
 pub mod Demand3Calls
+pub mod Demand3Example
