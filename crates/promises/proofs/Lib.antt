@@ -1,3 +1,10 @@
 -- The demands, proved.
 pub mod Acks
 pub mod Demand2
+pub mod Demand3Marks
+pub mod Demand3Rebuilt
+pub mod Demand3Places
+pub mod Demand3Invariant
+pub mod Demand3
+pub mod Demand3Calls
+pub mod Demand3Example

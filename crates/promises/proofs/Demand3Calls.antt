@@ -1,0 +1,70 @@
+-- Demand 3 of the calls, carried over from the store by the calls' promises. Assumes nothing.
+use mathlib.Core.Path.{_≡_, refl, sym, ap, _∙_, subst}
+use mathlib.Core.List.{List, [], _∷_, map}
+use Prim.Native.Nat.{ℕ, zero, suc, _<_}
+use native.Mathlib.Omega.{arith}
+use lib.ListN.{length, getD}
+use Rattle.reassembly.specs.Store.{Piece, first, follow, Store, empty, step}
+use Rattle.reassembly.specs.Calls.{renewed}
+use Rattle.reassembly.specs.Stands.{stands, Made, Agrees, labelOf, replyFor, laidOut}
+use Rattle.reassembly.proofs.Steps.{Fits, first-agrees, follow-agrees}
+use Rattle.reassembly.proofs.Sweeps.{sweep-stands, sweep-made, new-stands, new-made}
+use Rattle.promises.specs.Demand3.{Cut, pieceOf, noCut, Event, deliver, tidy, start, due, times, act, saidOf, said, final, Outcome}
+use Rattle.promises.specs.Demand3Calls.{pieceCall, called, calls, lastly, replyDue, buffersDue, secondOf, Demand3Calls}
+use Rattle.promises.proofs.Demand3.{demand3}
+
+piece-agrees : (rec room out : List ℕ) → Made rec room → (p : Piece) (second : ℕ) → Fits p second → Agrees out (pieceCall rec room out p second) (step (length out) (stands rec room) p second)
+unfolding pieceCall
+piece-agrees rec room out m (first id typ expires bytes) second f = first-agrees rec room out m id typ expires second bytes f
+piece-agrees rec room out m (follow id number final bytes) second f = follow-agrees rec room out m id number final second bytes f
+
+piece-fits : (c : Cut) (i second : ℕ) → c .id < 4294967296 → c .expires < 4294967296 → second < 18446744073709551616 → Fits (pieceOf c i) second
+piece-fits c zero second a b d = record { id = unfold labelOf in a; expires = unfold labelOf in b; second-fits = d }
+piece-fits c (suc i) second a b d = record { id = unfold labelOf in a; expires = unfold labelOf in omega arith; second-fits = d }
+
+-- one event
+event-agrees : (cs : List Cut) (rec room out : List ℕ) → Made rec room → ((c : ℕ) → getD cs c noCut .id < 4294967296) → ((c : ℕ) → getD cs c noCut .expires < 4294967296)
+    → (e : Event) → secondOf e < 18446744073709551616 → Agrees out (called cs rec room out e) (act (length out) cs (stands rec room) e)
+unfolding called act
+event-agrees cs rec room out m hi hx (deliver c i now) hs = piece-agrees rec room out m (pieceOf (getD cs c noCut) i) now (piece-fits (getD cs c noCut) i now (hi c) (hx c) hs)
+event-agrees cs rec room out m hi hx (tidy now) hs =
+    record { reply = unfold replyFor in refl; delivered = unfold laidOut in refl; store = sweep-stands now rec room m; made = sweep-made now rec room m }
+
+module _ (cap : ℕ) (outs : ℕ → List ℕ) (long : (n : ℕ) → length (outs n) ≡ cap) (cs : List Cut)
+    (hi : (c : ℕ) → getD cs c noCut .id < 4294967296) (hx : (c : ℕ) → getD cs c noCut .expires < 4294967296) where
+  event-at : (n : ℕ) (rec room : List ℕ) → Made rec room → (e : Event) → secondOf e < 18446744073709551616 → Agrees (outs n) (called cs rec room (outs n) e) (act cap cs (stands rec room) e)
+  event-at n rec room m e hs =
+      subst (λ (k : ℕ). Agrees (outs n) (called cs rec room (outs n) e) (act k cs (stands rec room) e)) (long n) (event-agrees cs rec room (outs n) m hi hx e hs)
+
+  runs : (es : List Event) (n : ℕ) (rec room : List ℕ) → Made rec room → ((k : ℕ) → secondOf (getD es k (tidy 0)) < 18446744073709551616)
+      → (map (λ x. x .reply) (calls cs outs n rec room es) ≡ map replyDue (said cap cs (stands rec room) es))
+      × (map (λ x. x .out) (calls cs outs n rec room es) ≡ buffersDue outs n (said cap cs (stands rec room) es))
+      × (stands (lastly cs outs n rec room es .rec) (lastly cs outs n rec room es .room) ≡ final cap cs (stands rec room) es)
+  runs [] n rec room m hs = (refl, refl, refl)
+  runs (e ∷ es) n rec room m hs =
+      let a : Agrees (outs n) (called cs rec room (outs n) e) (act cap cs (stands rec room) e) = event-at n rec room m e (hs 0) in
+      let ih = runs es (suc n) (called cs rec room (outs n) e .rec) (called cs rec room (outs n) e .room) (a .made) (λ k. hs (suc k)) in
+      (rw (reply-is e rec room a, ih .0, a .store) refl, rw (out-is e rec room a, ih .1, a .store) refl, ih .2 ∙ ap (λ (s : Store). final cap cs s es) (a .store))
+    where
+      reply-is : (e : Event) (rec room : List ℕ) → Agrees (outs n) (called cs rec room (outs n) e) (act cap cs (stands rec room) e)
+          → called cs rec room (outs n) e .reply ≡ replyDue (saidOf (act cap cs (stands rec room) e))
+      reply-is e rec room a = unfold replyDue saidOf in a .reply
+
+      out-is : (e : Event) (rec room : List ℕ) → Agrees (outs n) (called cs rec room (outs n) e) (act cap cs (stands rec room) e)
+          → called cs rec room (outs n) e .out ≡ laidOut (outs n) (saidOf (act cap cs (stands rec room) e) .out)
+      out-is e rec room a = unfold saidOf in a .delivered
+
+-- Demand 3, of the calls
+pub demand3-calls : Demand3Calls
+demand3-calls cap hc outs long rec room lr lm cs within es narrow q =
+    let o : Outcome cap cs es = demand3 cap hc cs within es q in
+    let m : Made (renewed rec) room = new-made rec room lr lm in
+    let z : stands (renewed rec) room ≡ empty = new-stands rec room lr lm in
+    let r = runs cap outs long cs (narrow .ids) (narrow .expirations) es 0 (renewed rec) room m (narrow .seconds) in
+    let d : said cap cs (stands (renewed rec) room) es ≡ due cs (start cs) es = ap (λ (s : Store). said cap cs s es) z ∙ o .as-due in
+    record {
+      replies = r .0 ∙ ap (map replyDue) d;
+      buffers = r .1 ∙ ap (buffersDue outs 0) d;
+      once = λ c h. ap (times c es) (sym (o .as-due)) ∙ o .once c h;
+      ends-empty = r .2 ∙ ap (λ (s : Store). final cap cs s es) z ∙ o .ends-empty;
+    }

@@ -1,0 +1,189 @@
+-- Case (l) of document 01, and a schedule that keeps the rules of demand 3, found so by computation. Assumes nothing.
+use mathlib.Core.Path.{_≡_, refl, sym, ap, _∙_}
+use mathlib.Core.Bool.{Bool, true, false, not, _&&_, false≢true}
+use mathlib.Core.List.{List, [], _∷_}
+use mathlib.Core.Option.{none, some}
+use Prim.Native.Nat.{ℕ, zero, suc, _+_, _<_, _≤_}
+use native.Mathlib.Nat.{not-suc-le-zero}
+use native.Mathlib.Omega.{arith}
+use native.Mathlib.Decide.{ℕ-discrete}
+use lib.ListN.{length, getD, List·getD-eq-default}
+use lib.Dec.{eqb, ltb, leb}
+use borrow.Author.Tests.{ltb-true, ltb-false, leb-true, eqb-true, eq-eqb, not-true}
+use Rattle.wire.specs.Parts.{same}
+use Rattle.reassembly.specs.Store.{empty, total, idOf, numberOf, finalOf, bytesOf, findId, findFree, placeOf, messageOr, plus, badLength, badNumber, repeats, clashes, tooMuch, complete, wholeOf, tooShort, refused, answer, step, sweptOne, sweep}
+use Rattle.promises.specs.Demand3.{Cut, Within, noCut, Event, deliver, tidy, Tally, noTally, begun, done, isOpen, marked, untouched, start, note, count, Allowed, Orderly, Schedule, act, saidOf, said, Outcome}
+use Rattle.promises.specs.Demand3Calls.{secondOf, OutcomeOfCalls}
+use Rattle.promises.proofs.Demand3.{demand3}
+use Rattle.promises.proofs.Demand3Calls.{demand3-calls}
+
+-- Tests that compute: whether cuts are within the limits, and whether a schedule keeps the rules
+abbrev allBelow : ℕ → (ℕ → Bool) → Bool
+allBelow zero f = true
+allBelow (suc n) f = f n && allBelow n f
+
+both : (a b : Bool) → (a && b) ≡ true → (a ≡ true) × (b ≡ true)
+both true b e = (refl, e)
+both false b e = absurd (false≢true e)
+
+all-below : (n : ℕ) (f : ℕ → Bool) → allBelow n f ≡ true → (i : ℕ) → i < n → f i ≡ true
+all-below zero f e i h = absurd (not-suc-le-zero h)
+all-below (suc n) f e i h = go (ℕ-discrete i n) (both (f n) (allBelow n f) e) (λ d. all-below n f d i)
+  where
+    go : Dec (i ≡ n) → (f n ≡ true) × (allBelow n f ≡ true) → (allBelow n f ≡ true → i < n → f i ≡ true) → f i ≡ true
+    go (yes q) d ih = ap f q ∙ d .0
+    go (no q) d ih = ih (d .1) (omega arith)
+
+-- p → q, as a test
+abbrev implies : Bool → Bool → Bool
+implies true q = q
+implies false q = true
+
+implied : (p q : Bool) → implies p q ≡ true → p ≡ true → q ≡ true
+implied true q e h = e
+implied false q e h = absurd (false≢true h)
+
+withinTest : Cut → Bool
+withinTest c =
+    leb 2 (length (c .pieces)) && leb (length (c .pieces)) 128
+    && allBelow (length (c .pieces)) (λ i. leb 1 (length (getD (c .pieces) i [])))
+    && allBelow (length (c .pieces)) (λ i. leb (length (getD (c .pieces) i [])) 1500)
+    && leb (total (c .pieces)) 65535
+
+within-of : (c : Cut) → withinTest c ≡ true → Within c
+unfolding withinTest
+within-of c e =
+    let a = both _ _ e in
+    let b = both _ _ (a .0) in
+    let d = both _ _ (b .0) in
+    let f = both _ _ (d .0) in
+    record {
+      two = leb-true 2 (length (c .pieces)) (f .0);
+      most = leb-true (length (c .pieces)) 128 (f .1);
+      some-bytes = λ i h. leb-true 1 (length (getD (c .pieces) i [])) (all-below (length (c .pieces)) (λ i. leb 1 (length (getD (c .pieces) i []))) (d .1) i h);
+      few-bytes = λ i h. leb-true (length (getD (c .pieces) i [])) 1500 (all-below (length (c .pieces)) (λ i. leb (length (getD (c .pieces) i [])) 1500) (b .1) i h);
+      in-all = leb-true (total (c .pieces)) 65535 (a .1);
+    }
+
+open-inside : (ts : List Tally) (c : ℕ) → isOpen (getD ts c noTally) ≡ true → c < length ts
+unfolding isOpen begun
+open-inside ts c o = go (ltb c (length ts)) refl
+  where
+    go : (b : Bool) → ltb c (length ts) ≡ b → c < length ts
+    go true e = ltb-true c (length ts) e
+    go false e =
+        let d : getD ts c noTally ≡ noTally = List·getD-eq-default ts noTally {n = c} (ltb-false c (length ts) e) in
+        absurd (false≢true (sym (ap isOpen d) ∙ o))
+
+allowedTest : List Cut → List Tally → Event → Bool
+allowedTest cs ts (deliver c i now) = ltb c (length cs) && ltb i (length (getD cs c noCut .pieces)) && not (done (getD ts c noTally))
+allowedTest cs ts (tidy now) = allBelow (length ts) (λ c. implies (isOpen (getD ts c noTally)) (ltb now (getD ts c noTally .since + 30)))
+
+allowed-of : (cs : List Cut) (ts : List Tally) (e : Event) → allowedTest cs ts e ≡ true → Allowed cs ts e
+unfolding allowedTest
+allowed-of cs ts (deliver c i now) h =
+    let a = both _ _ h in
+    let b = both _ _ (a .0) in
+    (ltb-true c (length cs) (b .0), ltb-true i (length (getD cs c noCut .pieces)) (b .1), not-true (done (getD ts c noTally)) (a .1))
+allowed-of cs ts (tidy now) h =
+    λ c o. ltb-true now (getD ts c noTally .since + 30)
+    (implied (isOpen (getD ts c noTally)) (ltb now (getD ts c noTally .since + 30))
+    (all-below (length ts) (λ c. implies (isOpen (getD ts c noTally)) (ltb now (getD ts c noTally .since + 30))) h c (open-inside ts c o)) o)
+
+ownTest : List Cut → List Tally → ℕ → ℕ → Bool
+ownTest cs ts a b = implies (isOpen (getD ts a noTally)) (implies (isOpen (getD ts b noTally)) (implies (eqb (getD cs a noCut .id) (getD cs b noCut .id)) (eqb a b)))
+
+orderlyTest : List Cut → List Tally → Bool
+orderlyTest cs ts = leb (count isOpen ts) 16 && allBelow (length ts) (λ a. allBelow (length ts) (λ b. ownTest cs ts a b))
+
+orderly-of : (cs : List Cut) (ts : List Tally) → orderlyTest cs ts ≡ true → Orderly cs ts
+unfolding orderlyTest ownTest
+orderly-of cs ts h =
+    let d = both _ _ h in
+    record { at-most = leb-true (count isOpen ts) 16 (d .0); own-id = λ a b oa ob q. own a b oa ob q (row a oa (d .1)) }
+  where
+    row : (a : ℕ) → isOpen (getD ts a noTally) ≡ true → allBelow (length ts) (λ a. allBelow (length ts) (λ b. ownTest cs ts a b)) ≡ true → allBelow (length ts) (λ b. ownTest cs ts a b) ≡ true
+    row a oa e = all-below (length ts) (λ a. allBelow (length ts) (λ b. ownTest cs ts a b)) e a (open-inside ts a oa)
+
+    own : (a b : ℕ) → isOpen (getD ts a noTally) ≡ true → isOpen (getD ts b noTally) ≡ true → getD cs a noCut .id ≡ getD cs b noCut .id
+        → allBelow (length ts) (λ b. ownTest cs ts a b) ≡ true → a ≡ b
+    own a b oa ob q e =
+        let t : ownTest cs ts a b ≡ true = all-below (length ts) (λ b. ownTest cs ts a b) e b (open-inside ts b ob) in
+        let same : eqb (getD cs a noCut .id) (getD cs b noCut .id) ≡ true = eq-eqb (getD cs a noCut .id) (getD cs b noCut .id) q in
+        let u : eqb a b ≡ true = rw (oa, ob, same) at t in
+        eqb-true a b u
+
+scheduleTest : List Cut → List Tally → List Event → Bool
+scheduleTest cs ts [] = allBelow (length cs) (λ c. done (getD ts c noTally))
+scheduleTest cs ts (e ∷ es) = allowedTest cs ts e && orderlyTest cs (note ts e) && scheduleTest cs (note ts e) es
+
+schedule-of : (cs : List Cut) (es : List Event) (ts : List Tally) → scheduleTest cs ts es ≡ true → Schedule cs ts es
+unfolding scheduleTest
+schedule-of cs [] ts h = λ c k. all-below (length cs) (λ c. done (getD ts c noTally)) h c k
+schedule-of cs (e ∷ es) ts h =
+    let a : ((allowedTest cs ts e && orderlyTest cs (note ts e)) ≡ true) × (scheduleTest cs (note ts e) es ≡ true) = both _ _ h in
+    let b : (allowedTest cs ts e ≡ true) × (orderlyTest cs (note ts e) ≡ true) = both _ _ (a .0) in
+    (allowed-of cs ts e (b .0), orderly-of cs (note ts e) (b .1), schedule-of cs es (note ts e) (a .1))
+
+-- Three messages, the third with the id of the first. They are mixed, with a repeat, pieces out of order and two sweeps.
+abbrev threeCuts : List Cut
+threeCuts =
+    record { id = 7; typ = 20; expires = 900; pieces = (1 ∷ 2 ∷ []) ∷ (3 ∷ []) ∷ (4 ∷ 5 ∷ []) ∷ [] }
+    ∷ record { id = 9; typ = 1; expires = 901; pieces = (6 ∷ []) ∷ (7 ∷ []) ∷ [] }
+    ∷ record { id = 7; typ = 2; expires = 902; pieces = (8 ∷ []) ∷ (9 ∷ []) ∷ [] }
+    ∷ []
+
+abbrev mixture : List Event
+mixture =
+    deliver 0 0 100 ∷ deliver 0 2 101 ∷ deliver 1 1 120 ∷ deliver 0 0 121 ∷ tidy 129 ∷ deliver 0 1 140
+    ∷ deliver 2 0 141 ∷ tidy 149 ∷ deliver 1 0 150 ∷ deliver 2 1 151 ∷ []
+
+keeps-rules : Schedule threeCuts (start threeCuts) mixture
+unfolding scheduleTest allowedTest orderlyTest ownTest start untouched note marked begun done isOpen
+keeps-rules = schedule-of threeCuts mixture (start threeCuts) refl
+
+within-limits : (c : ℕ) → c < length threeCuts → Within (getD threeCuts c noCut)
+unfolding withinTest
+within-limits c h = within-of (getD threeCuts c noCut) (all-below 3 (λ c. withinTest (getD threeCuts c noCut)) refl c h)
+
+pub example : Outcome 65535 threeCuts mixture
+example = demand3 65535 (omega arith) threeCuts within-limits mixture keeps-rules
+
+-- and what the store says of it, computed
+pub example-said :
+    said 65535 threeCuts empty mixture
+    ≡ record { number = 0; out = none } ∷ record { number = 0; out = none } ∷ record { number = 0; out = none } ∷ record { number = 54; out = none }
+    ∷ record { number = 0; out = none } ∷ record { number = 60; out = some (record { typ = 20; expires = 900; bytes = 1 ∷ 2 ∷ 3 ∷ 4 ∷ 5 ∷ [] }) }
+    ∷ record { number = 0; out = none } ∷ record { number = 0; out = none }
+    ∷ record { number = 60; out = some (record { typ = 1; expires = 901; bytes = 6 ∷ 7 ∷ [] }) }
+    ∷ record { number = 60; out = some (record { typ = 2; expires = 902; bytes = 8 ∷ 9 ∷ [] }) } ∷ []
+unfolding act saidOf step answer placeOf findId findFree messageOr plus badLength badNumber repeats clashes tooMuch complete wholeOf tooShort refused idOf numberOf finalOf bytesOf sweep sweptOne same
+example-said = refl
+
+-- The same schedule, delivered to the calls: it meets every premise, with any record, room and assembly buffers of the lent lengths.
+ids-narrow : (c : ℕ) → getD threeCuts c noCut .id < 4294967296
+ids-narrow zero = omega arith
+ids-narrow (suc zero) = omega arith
+ids-narrow (suc (suc zero)) = omega arith
+ids-narrow (suc (suc (suc c))) = omega arith
+
+expirations-narrow : (c : ℕ) → getD threeCuts c noCut .expires < 4294967296
+expirations-narrow zero = omega arith
+expirations-narrow (suc zero) = omega arith
+expirations-narrow (suc (suc zero)) = omega arith
+expirations-narrow (suc (suc (suc c))) = omega arith
+
+-- seconds that are all below a bound
+abbrev allEarly : List Event → Bool
+allEarly [] = true
+allEarly (e ∷ es) = ltb (secondOf e) 18446744073709551616 && allEarly es
+
+early-at : (es : List Event) → allEarly es ≡ true → (n : ℕ) → secondOf (getD es n (tidy 0)) < 18446744073709551616
+early-at [] h n = omega arith
+early-at (e ∷ es) h zero = ltb-true (secondOf e) 18446744073709551616 (both (ltb (secondOf e) 18446744073709551616) (allEarly es) h .0)
+early-at (e ∷ es) h (suc n) = early-at es (both (ltb (secondOf e) 18446744073709551616) (allEarly es) h .1) n
+
+pub example-calls : (outs : ℕ → List ℕ) → ((n : ℕ) → length (outs n) ≡ 65535) → (rec room : List ℕ) → 8576 ≤ length rec → 1048560 ≤ length room → OutcomeOfCalls threeCuts outs rec room mixture
+example-calls outs long rec room lr lm =
+    demand3-calls 65535 (omega arith) outs long rec room lr lm threeCuts within-limits mixture
+    (record { ids = ids-narrow; expirations = expirations-narrow; seconds = early-at mixture refl }) keeps-rules

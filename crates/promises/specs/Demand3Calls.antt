@@ -1,0 +1,67 @@
+-- Demand 3 of the calls: the schedules of specs/Demand3.antt, delivered to first_fragment, follow_on_fragment and sweep on lent bytes.
+-- `firstCall`, `followOnCall`, `swept` and `renewed` are what the contracts of these calls, and of new, say of every record, room and buffer.
+use mathlib.Core.Path.{_≡_}
+use mathlib.Core.List.{List, [], _∷_, map}
+use Prim.Native.Nat.{ℕ, suc, _≤_, _<_}
+use lib.ListN.{length, getD}
+use Rattle.reassembly.specs.declared.Reply.{Reply}
+use Rattle.reassembly.specs.Store.{Piece, first, follow, empty}
+use Rattle.reassembly.specs.Calls.{After, after, bare, firstCall, followOnCall, swept, renewed}
+use Rattle.reassembly.specs.Stands.{stands, labelOf, replyFor, laidOut}
+use Rattle.promises.specs.Demand3.{Cut, Within, pieceOf, noCut, Event, deliver, tidy, start, Schedule, Said, due, times}
+
+-- a piece arrives: the call for it, and what it leaves
+unfoldable pub pieceCall : List ℕ → List ℕ → List ℕ → Piece → ℕ → After
+pieceCall rec room out (first id typ expires bytes) second = firstCall rec room out (labelOf (first id typ expires bytes)) second bytes
+pieceCall rec room out (follow id number final bytes) second = followOnCall rec room out (labelOf (follow id number final bytes)) second bytes
+
+-- an event, on lent bytes
+unfoldable pub called : List Cut → List ℕ → List ℕ → List ℕ → Event → After
+called cs rec room out (deliver c i now) = pieceCall rec room out (pieceOf (getD cs c noCut) i) now
+called cs rec room out (tidy now) = after (bare 0) (swept now rec) room out
+
+-- what the calls leave, one after the other; the n-th is lent the assembly buffer outs n, whatever it holds
+abbrev pub calls : List Cut → (ℕ → List ℕ) → ℕ → List ℕ → List ℕ → List Event → List After
+calls cs outs n rec room [] = []
+calls cs outs n rec room (e ∷ es) =
+    called cs rec room (outs n) e ∷ calls cs outs (suc n) (called cs rec room (outs n) e .rec) (called cs rec room (outs n) e .room) es
+
+-- the record and the room after the last of them
+abbrev pub lastly : List Cut → (ℕ → List ℕ) → ℕ → List ℕ → List ℕ → List Event → After
+lastly cs outs n rec room [] = after (bare 0) rec room []
+lastly cs outs n rec room (e ∷ es) = lastly cs outs (suc n) (called cs rec room (outs n) e .rec) (called cs rec room (outs n) e .room) es
+
+-- the reply that is due, and the assembly buffer that is due
+unfoldable pub replyDue : Said → Reply
+replyDue d = replyFor (d .number) (d .out)
+
+abbrev pub buffersDue : (ℕ → List ℕ) → ℕ → List Said → List (List ℕ)
+buffersDue outs n [] = []
+buffersDue outs n (d ∷ ds) = laidOut (outs n) (d .out) ∷ buffersDue outs (suc n) ds
+
+abbrev pub secondOf : Event → ℕ
+secondOf (deliver c i now) = now
+secondOf (tidy now) = now
+
+-- what the calls' parameters hold: ids and expirations of 4 bytes, seconds of 8
+pub record Narrow (cs : List Cut) (es : List Event) : Type 0 where
+  pub ids : (c : ℕ) → getD cs c noCut .id < 4294967296
+  pub expirations : (c : ℕ) → getD cs c noCut .expires < 4294967296
+  pub seconds : (n : ℕ) → secondOf (getD es n (tidy 0)) < 18446744073709551616
+
+-- Every call is answered as is due, leaves its assembly buffer as is due, every message came out once, and the record and the room stand for the empty store again.
+pub record OutcomeOfCalls (cs : List Cut) (outs : ℕ → List ℕ) (rec room : List ℕ) (es : List Event) : Type 0 where
+  pub replies : map (λ x. x .reply) (calls cs outs 0 (renewed rec) room es) ≡ map replyDue (due cs (start cs) es)
+  pub buffers : map (λ x. x .out) (calls cs outs 0 (renewed rec) room es) ≡ buffersDue outs 0 (due cs (start cs) es)
+  pub once : (c : ℕ) → c < length cs → times c es (due cs (start cs) es) ≡ 1
+  pub ends-empty : stands (lastly cs outs 0 (renewed rec) room es .rec) (lastly cs outs 0 (renewed rec) room es .room) ≡ empty
+
+-- Demand 3, of the calls
+abbrev pub Demand3Calls : Type 0
+Demand3Calls =
+    (cap : ℕ) → 65535 ≤ cap
+    → (outs : ℕ → List ℕ) → ((n : ℕ) → length (outs n) ≡ cap)
+    → (rec room : List ℕ) → 8576 ≤ length rec → 1048560 ≤ length room
+    → (cs : List Cut) → ((c : ℕ) → c < length cs → Within (getD cs c noCut))
+    → (es : List Event) → Narrow cs es → Schedule cs (start cs) es
+    → OutcomeOfCalls cs outs rec room es

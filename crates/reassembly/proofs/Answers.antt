@@ -1,0 +1,126 @@
+-- The store's answer to a piece, read off the head, the entries and the pieces of its slot. Assumes nothing.
+use mathlib.Core.Path.{_≡_, refl, sym, ap, _∙_}
+use mathlib.Core.Logic.{_≢_}
+use mathlib.Core.Bool.{Bool, true, false, cond, _&&_, _||_, Bool·beq, true≢false}
+use mathlib.Core.List.{List, []}
+use Prim.Native.Nat.{ℕ, suc, _+_, _≤_, _<_}
+use native.Mathlib.Omega.{arith}
+use lib.Dec.{eqb, ltb}
+use lib.ListN.{length, getD, set, drop}
+use borrow.Author.Tests.{ltb-false}
+use Rattle.wire.specs.Parts.{same}
+use Rattle.reassembly.specs.declared.record.Head.{Head}
+use Rattle.reassembly.specs.Store.{Piece, first, follow, idOf, numberOf, finalOf, bytesOf, isHeld, someHeld, total, plus, badLength, badNumber, repeats, clashes, tooMuch}
+use Rattle.reassembly.specs.Record.{pieceAt}
+use Rattle.reassembly.specs.Judge.{pick, sameLabel, misfits, grownBy}
+use Rattle.reassembly.specs.Calls.{badSize}
+use Rattle.reassembly.specs.Stands.{tableAt, messageWith, Fine, labelOf}
+use Rattle.reassembly.proofs.Held.{some-above}
+use Rattle.reassembly.proofs.Kept.{table-at}
+
+-- ---- a piece and its label
+
+pub label-id : (p : Piece) → labelOf p .id ≡ idOf p
+unfolding labelOf idOf
+label-id (first id typ expires bytes) = refl
+label-id (follow id number final bytes) = refl
+
+pub label-number : (p : Piece) → labelOf p .number ≡ numberOf p
+unfolding labelOf numberOf
+label-number (first id typ expires bytes) = refl
+label-number (follow id number final bytes) = refl
+
+pub label-last : (p : Piece) → labelOf p .last ≡ finalOf p
+unfolding labelOf finalOf
+label-last (first id typ expires bytes) = refl
+label-last (follow id number final bytes) = refl
+
+or-false : (a b : Bool) → (a || b) ≡ false → (a ≡ false) × (b ≡ false)
+or-false true b e = absurd (true≢false e)
+or-false false b e = (refl, e)
+
+-- a number that is not refused is below 128
+pub number-small : (p : Piece) → badNumber p ≡ false → labelOf p .number < 128
+unfolding labelOf badNumber
+number-small (first id typ expires bytes) e = omega arith
+number-small (follow id number final bytes) e = let q : number ≤ 127 = ltb-false 127 number (or-false (eqb number 0) (ltb 127 number) e .1) in omega arith
+
+-- ---- the tests of a piece whose slot has the head h
+
+module _ (h : Head) (rec room : List ℕ) (i : ℕ) (f : Fine h rec room i) (long : 1048560 ≤ length room) (hi : i < 16) (p : Piece) (gn : badNumber p ≡ false) where
+  swap₁ : (s a b : Bool) → (((true && s) && a) && b) ≡ ((a && b) && s)
+  swap₁ true true true = refl
+  swap₁ true true false = refl
+  swap₁ true false b = refl
+  swap₁ false true true = refl
+  swap₁ false true false = refl
+  swap₁ false false b = refl
+
+  swap₂ : (s a : Bool) → ((true && s) && a) ≡ (a && s)
+  swap₂ true true = refl
+  swap₂ true false = refl
+  swap₂ false true = refl
+  swap₂ false false = refl
+
+  pub repeats-held : isHeld (getD (tableAt rec room i) (labelOf p .number) []) ≡ true
+      → repeats (messageWith h rec room i) p ≡ (sameLabel h (labelOf p) && same (pieceAt rec room i (labelOf p .number)) (bytesOf p))
+  unfolding repeats messageWith labelOf sameLabel bytesOf badNumber
+  repeats-held = go p gn
+    where
+      go : (p : Piece) → badNumber p ≡ false → isHeld (getD (tableAt rec room i) (labelOf p .number) []) ≡ true
+          → repeats (messageWith h rec room i) p ≡ (sameLabel h (labelOf p) && same (pieceAt rec room i (labelOf p .number)) (bytesOf p))
+      go (first id typ expires bytes) g e = rw (e, table-at rec room i 0 (omega arith)) (swap₁ (same (pieceAt rec room i 0) bytes) (eqb (h .kind) typ) (eqb (h .expires) expires))
+      go (follow id number final bytes) g e =
+          let z : eqb number 0 ≡ false = or-false (eqb number 0) (ltb 127 number) g .0 in
+          let s : number ≤ 127 = ltb-false 127 number (or-false (eqb number 0) (ltb 127 number) g .1) in
+          rw (e, table-at rec room i number (omega arith), z) (swap₂ (same (pieceAt rec room i number) bytes) (Bool·beq (eqb (h .last) number) final))
+
+  pub repeats-free : isHeld (getD (tableAt rec room i) (labelOf p .number) []) ≡ false → repeats (messageWith h rec room i) p ≡ false
+  unfolding repeats messageWith labelOf
+  repeats-free = go p
+    where
+      go : (p : Piece) → isHeld (getD (tableAt rec room i) (labelOf p .number) []) ≡ false → repeats (messageWith h rec room i) p ≡ false
+      go (first id typ expires bytes) e = rw e refl
+      go (follow id number final bytes) e = rw e refl
+
+  pub clashes-held : isHeld (getD (tableAt rec room i) (labelOf p .number) []) ≡ true → clashes (messageWith h rec room i) p ≡ true
+  unfolding clashes messageWith
+  clashes-held e =
+      let e′ : isHeld (getD (tableAt rec room i) (numberOf p) []) ≡ true = ap (λ (n : ℕ). isHeld (getD (tableAt rec room i) n [])) (sym (label-number p)) ∙ e in
+      rw e′ refl
+
+  pub clashes-free : isHeld (getD (tableAt rec room i) (labelOf p .number) []) ≡ false → clashes (messageWith h rec room i) p ≡ misfits h (labelOf p)
+  unfolding clashes messageWith misfits
+  clashes-free e =
+      let s : someHeld (drop (suc (labelOf p .number)) (tableAt rec room i)) ≡ ltb (labelOf p .number) (h .top) = some-above (tableAt rec room i) (labelOf p .number) (h .top) (f .top-held) (f .topmost) in
+      rw (← label-number p, ← label-last p, e, s) refl
+
+  pub too-much : tooMuch (messageWith h rec room i) p ≡ ltb 65535 (h .total + length (bytesOf p))
+  unfolding tooMuch messageWith
+  too-much = rw (f .filled) refl
+
+pub good-length : (p : Piece) → badLength p ≡ badSize (length (bytesOf p))
+unfolding badLength badSize
+good-length p = refl
+
+-- the message with the piece is what the slot stands for once the piece is kept
+pub plus-is : (h : Head) (rec room rec′ room′ : List ℕ) (i : ℕ) (p : Piece) → badNumber p ≡ false
+    → tableAt rec′ room′ i ≡ set (tableAt rec room i) (labelOf p .number) (bytesOf p)
+    → plus (messageWith h rec room i) p ≡ messageWith (grownBy h (labelOf p) (length (bytesOf p))) rec′ room′ i
+unfolding plus messageWith grownBy labelOf bytesOf badNumber
+plus-is h rec room rec′ room′ i (first id typ expires bytes) g t =
+    λ j. record { id = h .id; opened = h .opened; typ = typ; expires = expires; last = h .last; table = sym t j }
+plus-is h rec room rec′ room′ i (follow id number final bytes) g t =
+    let z : eqb number 0 ≡ false = or-false (eqb number 0) (ltb 127 number) g .0 in
+    λ j. record {
+      id = h .id;
+      opened = h .opened;
+      typ = pick (sym z j) 0 (h .kind);
+      expires = pick (sym z j) 0 (h .expires);
+      last = last-is final j;
+      table = sym t j;
+    }
+  where
+    last-is : (b : Bool) → cond b number (h .last) ≡ pick b number (h .last)
+    last-is true = refl
+    last-is false = refl

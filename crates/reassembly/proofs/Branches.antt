@@ -1,0 +1,182 @@
+-- Each branch of a call's definition, from the test that leads there. Assumes nothing.
+use mathlib.Core.Path.{_≡_, refl, sym, ap, _∙_}
+use mathlib.Core.Bool.{Bool, true, false, _&&_, _||_, false≢true}
+use mathlib.Core.List.{List}
+use Prim.Native.Nat.{ℕ, _+_, _*_, _≤_, _<_}
+use native.Mathlib.Omega.{arith}
+use lib.Dec.{eqb, ltb}
+use lib.ListN.{length}
+use borrow.Author.Tests.{lt-ltb, le-ltb, eq-eqb, ne-eqb, le-leb, lt-leb, ltb-true, ltb-false, eqb-false}
+use Rattle.wire.specs.Parts.{splice}
+use Rattle.reassembly.specs.declared.record.Head.{Head}
+use Rattle.reassembly.specs.declared.record.Entry.{Entry}
+use Rattle.reassembly.specs.declared.judge.Label.{Label}
+use Rattle.reassembly.specs.declared.Reply.{Reply}
+use Rattle.reassembly.specs.Record.{headAt, withHead, entryAt, withEntry, pieceAt, cleared}
+use Rattle.reassembly.specs.Slots.{firstFrom, isOpenAs, isFree}
+use Rattle.reassembly.specs.Message.{messageOf}
+use Rattle.reassembly.specs.Judge.{again, misfits, grownBy, isWhole, newHead, noHead, isOld}
+use Rattle.reassembly.specs.Calls.{After, after, bare, keptRec, keptRoom, finished, putIn, added, openedIn, openedNow, taken, isShort, badSize, offNumber, firstCall, followOnCall, sweptAt}
+
+-- a message that is whole has a last number below 128
+pub whole-last : (h : Head) → isWhole h ≡ true → h .last < 128
+unfolding isWhole
+whole-last h e = ltb-true (h .last) 128 (go (ltb 0 (h .last)) (ltb (h .last) 128) (eqb (h .count) (h .last + 1)) e)
+  where
+    go : (a b c : Bool) → (a && b && c) ≡ true → b ≡ true
+    go true true c q = refl
+    go true false c q = absurd (false≢true q)
+    go false b c q = absurd (false≢true q)
+
+module _ (rec room out : List ℕ) (i : ℕ) (l : Label) (g : Head) (v : List ℕ) where
+  pub finished-short : (r : Reply) (n k m : ℕ) → k ≡ l .number → m ≡ g .last → n ≡ length (messageOf rec room i k v (m + 1)) → length out < n → r ≡ bare 56 → after r rec room out ≡ finished rec room out i l g v
+  unfolding finished
+  finished-short r n k m ek em en h q =
+      let e : n ≡ length (messageOf rec room i (l .number) v (g .last + 1)) = cc in
+      let t : ltb (length out) (length (messageOf rec room i (l .number) v (g .last + 1))) ≡ true = lt-ltb (length out) (length (messageOf rec room i (l .number) v (g .last + 1))) (omega arith) in
+      rw (t, q) refl
+
+  pub finished-out : (n k m : ℕ) (rec′ out′ : List ℕ) (z : Head) → k ≡ l .number → m ≡ g .last → n ≡ length (messageOf rec room i k v (m + 1)) → n ≤ length out
+      → out′ ≡ splice out 0 (messageOf rec room i k v (m + 1)) → z ≡ noHead → rec′ ≡ withHead rec i z
+      → after (record { number = 60; kind = g .kind; expires = g .expires; length = n }) rec′ room out′ ≡ finished rec room out i l g v
+  unfolding finished
+  finished-out n k m rec′ out′ z ek em en h eo eh er =
+      let s : n ≡ length (messageOf rec room i (l .number) v (g .last + 1)) = cc in
+      let t : ltb (length out) (length (messageOf rec room i (l .number) v (g .last + 1))) ≡ false = le-ltb (length out) (length (messageOf rec room i (l .number) v (g .last + 1))) (omega arith) in
+      rw t (cc)
+
+module _ (rec room out : List ℕ) (i : ℕ) (h : Head) (l : Label) (v : List ℕ) where
+  pub put-53 : (r : Reply) → 65535 < h .total + length v → r ≡ bare 53 → after r rec room out ≡ putIn rec room out i h l v
+  unfolding putIn
+  put-53 r t q = rw (lt-ltb 65535 (h .total + length v) t, q) refl
+
+  pub put-whole : (x : After) (g : Head) → h .total + length v ≤ 65535 → g ≡ grownBy h l (length v) → isWhole g ≡ true → x ≡ finished rec room out i l g v → x ≡ putIn rec room out i h l v
+  unfolding putIn
+  put-whole x g t e w q =
+      let w′ : isWhole (grownBy h l (length v)) ≡ true = ap isWhole (sym e) ∙ w in
+      rw (le-ltb 65535 (h .total + length v) t, w′) (q ∙ ap (λ (z : Head). finished rec room out i l z v) e)
+
+  pub put-kept : (r : Reply) (rec′ room′ : List ℕ) (g : Head) (k : ℕ) → h .total + length v ≤ 65535 → g ≡ grownBy h l (length v) → isWhole g ≡ false → k ≡ l .number
+      → rec′ ≡ keptRec rec i k (h .total) (length v) g → room′ ≡ keptRoom room i (h .total) v → r ≡ bare 0 → after r rec′ room′ out ≡ putIn rec room out i h l v
+  unfolding putIn
+  put-kept r rec′ room′ g k t e w n a b q =
+      let w′ : isWhole (grownBy h l (length v)) ≡ false = ap isWhole (sym e) ∙ w in
+      rw (le-ltb 65535 (h .total + length v) t, w′) (cc)
+
+module _ (rec room out : List ℕ) (i : ℕ) (l : Label) (v : List ℕ) (h : Head) (k : ℕ) (e : Entry) (eh : h ≡ headAt rec i) (ek : k ≡ l .number) (ee : e ≡ entryAt rec i k) where
+  len-is : e .len ≡ entryAt rec i (l .number) .len
+  len-is = ap (λ (x : Entry). x .len) ee ∙ ap (λ (z : ℕ). entryAt rec i z .len) ek
+
+  pub added-again : (r : Reply) (n : ℕ) (held : List ℕ) → (e .len ≡ 0 → ⊥) → held ≡ pieceAt rec room i k → n ≡ again h l held v → r ≡ bare n → after r rec room out ≡ added rec room out i l v
+  unfolding added
+  added-again r n held t p q b =
+      let u : n ≡ again (headAt rec i) l (pieceAt rec room i (l .number)) v = cc in
+      rw (ne-eqb (entryAt rec i (l .number) .len) 0 (λ z. t (len-is ∙ z)), b, u) refl
+
+  pub added-55 : (r : Reply) (b : Bool) → e .len ≡ 0 → b ≡ misfits h l → b ≡ true → r ≡ bare 55 → after r rec room out ≡ added rec room out i l v
+  unfolding added
+  added-55 r b t m m′ q =
+      let u : misfits (headAt rec i) l ≡ true = cc in
+      rw (eq-eqb (entryAt rec i (l .number) .len) 0 (sym len-is ∙ t), u, q) refl
+
+  pub added-put : (x : After) (b : Bool) → e .len ≡ 0 → b ≡ misfits h l → b ≡ false → x ≡ putIn rec room out i h l v → x ≡ added rec room out i l v
+  unfolding added
+  added-put x b t m m′ q =
+      let u : misfits (headAt rec i) l ≡ false = cc in
+      rw (eq-eqb (entryAt rec i (l .number) .len) 0 (sym len-is ∙ t), u) (q ∙ ap (λ (z : Head). putIn rec room out i z l v) eh)
+
+-- a piece put after what its slot holds
+pub kept-is : (rec rec₁ rec′ room room′ : List ℕ) (i k total : ℕ) (g : Head) (v : List ℕ) (at : ℕ) → at ≡ total → room′ ≡ splice room (i * 65535 + at) v
+    → rec₁ ≡ withEntry rec i k (record { place = total; len = length v }) → rec′ ≡ withHead rec₁ i g
+    → (rec′ ≡ keptRec rec i k total (length v) g) × (room′ ≡ keptRoom room i total v)
+unfolding keptRec keptRoom
+kept-is rec rec₁ rec′ room room′ i k total g v at ea em e₁ e₂ =
+    (e₂ ∙ ap (λ (z : List ℕ). withHead z i g) e₁, em ∙ ap (λ (z : ℕ). splice room (i * 65535 + z) v) ea)
+
+pub opened-kept : (rec room rec₁ rec′ room′ : List ℕ) (i k second : ℕ) (l : Label) (g₀ g : Head) (v : List ℕ) → rec₁ ≡ cleared rec i → g₀ ≡ newHead l second → g ≡ grownBy g₀ l (length v)
+    → k ≡ l .number → rec′ ≡ keptRec rec₁ i k 0 (length v) g → room′ ≡ keptRoom room i 0 v
+    → (out : List ℕ) → after (bare 0) rec′ room′ out ≡ openedIn rec room out i l second v
+unfolding openedIn
+opened-kept rec room rec₁ rec′ room′ i k second l g₀ g v e₁ e₂ e₃ e₄ e₅ e₆ out = cc
+
+pub swept-old : (rec rec′ : List ℕ) (i second : ℕ) (h z : Head) (b : Bool) → h ≡ headAt rec i → b ≡ isOld second h → b ≡ true → z ≡ noHead → rec′ ≡ withHead rec i z → rec′ ≡ sweptAt second rec i
+unfolding sweptAt
+swept-old rec rec′ i second h z b eh eb t ez er =
+    let o : isOld second (headAt rec i) ≡ true = ap (isOld second) (sym eh) ∙ sym eb ∙ t in
+    rw o (er ∙ ap (withHead rec i) ez)
+
+pub swept-young : (rec : List ℕ) (i second : ℕ) (h : Head) (b : Bool) → h ≡ headAt rec i → b ≡ isOld second h → b ≡ false → rec ≡ sweptAt second rec i
+unfolding sweptAt
+swept-young rec i second h b eh eb t =
+    let o : isOld second (headAt rec i) ≡ false = ap (isOld second) (sym eh) ∙ sym eb ∙ t in
+    rw o refl
+
+module _ (rec room out : List ℕ) (l : Label) (second : ℕ) (v : List ℕ) where
+  pub opened-52 : (r : Reply) → 16 ≤ firstFrom (isFree rec) 0 16 → r ≡ bare 52 → after r rec room out ≡ openedNow rec room out l second v
+  unfolding openedNow
+  opened-52 r t q = rw (le-leb 16 (firstFrom (isFree rec) 0 16) t, q) refl
+
+  pub opened-in : (x : After) (i : ℕ) → i ≡ firstFrom (isFree rec) 0 16 → i < 16 → x ≡ openedIn rec room out i l second v → x ≡ openedNow rec room out l second v
+  unfolding openedNow
+  opened-in x i e t q = rw (lt-leb 16 (firstFrom (isFree rec) 0 16) (omega arith)) (q ∙ ap (λ (z : ℕ). openedIn rec room out z l second v) e)
+
+  pub taken-added : (x : After) (i : ℕ) → i ≡ firstFrom (isOpenAs rec (l .id)) 0 16 → i < 16 → x ≡ added rec room out i l v → x ≡ taken rec room out l second v
+  unfolding taken
+  taken-added x i e t q = rw (lt-ltb (firstFrom (isOpenAs rec (l .id)) 0 16) 16 (omega arith)) (q ∙ ap (λ (z : ℕ). added rec room out z l v) e)
+
+  pub taken-opened : (x : After) (i : ℕ) → i ≡ firstFrom (isOpenAs rec (l .id)) 0 16 → 16 ≤ i → x ≡ openedNow rec room out l second v → x ≡ taken rec room out l second v
+  unfolding taken
+  taken-opened x i e t q = rw (le-ltb (firstFrom (isOpenAs rec (l .id)) 0 16) 16 (omega arith)) q
+
+  pub first-59 : (r : Reply) → isShort rec room ≡ true → r ≡ bare 59 → after r rec room out ≡ firstCall rec room out l second v
+  unfolding firstCall
+  first-59 r t q = rw (t, q) refl
+
+  pub first-50 : (r : Reply) → isShort rec room ≡ false → badSize (length v) ≡ true → r ≡ bare 50 → after r rec room out ≡ firstCall rec room out l second v
+  unfolding firstCall
+  first-50 r t s q = rw (t, s, q) refl
+
+  pub first-taken : (x : After) → isShort rec room ≡ false → badSize (length v) ≡ false → x ≡ taken rec room out l second v → x ≡ firstCall rec room out l second v
+  unfolding firstCall
+  first-taken x t s q = rw (t, s) q
+
+  pub follow-59 : (r : Reply) → isShort rec room ≡ true → r ≡ bare 59 → after r rec room out ≡ followOnCall rec room out l second v
+  unfolding followOnCall
+  follow-59 r t q = rw (t, q) refl
+
+  pub follow-50 : (r : Reply) → isShort rec room ≡ false → badSize (length v) ≡ true → r ≡ bare 50 → after r rec room out ≡ followOnCall rec room out l second v
+  unfolding followOnCall
+  follow-50 r t s q = rw (t, s, q) refl
+
+  pub follow-51 : (r : Reply) → isShort rec room ≡ false → badSize (length v) ≡ false → offNumber (l .number) ≡ true → r ≡ bare 51 → after r rec room out ≡ followOnCall rec room out l second v
+  unfolding followOnCall
+  follow-51 r t s n q = rw (t, s, n, q) refl
+
+  pub follow-taken : (x : After) → isShort rec room ≡ false → badSize (length v) ≡ false → offNumber (l .number) ≡ false → x ≡ taken rec room out l second v → x ≡ followOnCall rec room out l second v
+  unfolding followOnCall
+  follow-taken x t s n q = rw (t, s, n) q
+
+-- what the tests that were passed say of the lengths and the number
+or-false : (a b : Bool) → (a || b) ≡ false → (a ≡ false) × (b ≡ false)
+or-false true b e = absurd (false≢true (sym e))
+or-false false b e = (refl, e)
+
+pub long-lent : (rec room : List ℕ) → isShort rec room ≡ false → (8576 ≤ length rec) × (1048560 ≤ length room)
+unfolding isShort
+long-lent rec room e =
+    let p = or-false (ltb (length rec) 8576) (ltb (length room) 1048560) e in
+    (ltb-false (length rec) 8576 (p .0), ltb-false (length room) 1048560 (p .1))
+
+pub good-size : (n : ℕ) → badSize n ≡ false → (0 < n) × (n ≤ 1500)
+unfolding badSize
+good-size n e =
+    let p = or-false (eqb n 0) (ltb 1500 n) e in
+    let z : n ≡ 0 → ⊥ = eqb-false n 0 (p .0) in
+    (omega arith, ltb-false 1500 n (p .1))
+
+pub good-number : (k : ℕ) → offNumber k ≡ false → (0 < k) × (k ≤ 127)
+unfolding offNumber
+good-number k e =
+    let p = or-false (eqb k 0) (ltb 127 k) e in
+    let z : k ≡ 0 → ⊥ = eqb-false k 0 (p .0) in
+    (omega arith, ltb-false 127 k (p .1))

@@ -1,0 +1,198 @@
+-- A piece that is taken: record, room and assembly buffer afterwards stand for the store's step. Assumes nothing.
+use mathlib.Core.Path.{_≡_, refl, sym, ap, _∙_, subst}
+use mathlib.Core.Logic.{_≢_}
+use mathlib.Core.Bool.{Bool, true, false, cond, true≢false}
+use mathlib.Core.List.{List, []}
+use mathlib.Core.Option.{Option, none, some}
+use Prim.Native.Nat.{ℕ, suc, _+_, _≤_, _<_}
+use native.Mathlib.Omega.{arith}
+use native.Mathlib.Numerals.{add-one}
+use lib.Dec.{eqb, ltb}
+use lib.ListN.{length, getD, set, take}
+use borrow.Author.Tests.{ne-eqb, lt-ltb, le-ltb, ltb-false, lt-leb}
+use Rattle.reassembly.specs.declared.record.Head.{Head}
+use Rattle.reassembly.specs.declared.judge.Label.{Label}
+use Rattle.reassembly.specs.Store.{Piece, bytesOf, Message, Store, Answer, isHeld, joined, plus, badLength, badNumber, complete, wholeOf, tooShort, refused, answer}
+use Rattle.reassembly.specs.Record.{headAt, withHead, pieceAt}
+use Rattle.reassembly.specs.Slots.{isFree}
+use Rattle.reassembly.specs.Judge.{misfits, moreOf, grownBy, isWhole, noHead}
+use Rattle.reassembly.specs.Message.{pieceOr, upTo, messageOf}
+use Rattle.reassembly.specs.Calls.{after, bare, keptRec, keptRoom, finished}
+use Rattle.reassembly.specs.Stands.{series, tableAt, messageWith, slotAt, stands, Fine, Made, labelOf, replyFor, laidOut, Agrees}
+use Rattle.reassembly.proofs.Branches.{good-size}
+use Rattle.reassembly.proofs.Joined.{piece-given, piece-held}
+use Rattle.reassembly.proofs.Series.{series-set}
+use Rattle.reassembly.proofs.Held.{joined-series}
+use Rattle.reassembly.proofs.Written.{length-head, length-kept}
+use Rattle.reassembly.proofs.Kept.{complete-is, kept-long, kept-head, kept-fine, table-kept}
+use Rattle.reassembly.proofs.Others.{Others, others-both, others-head, others-kept, stands-with, made-with, freed-slot, freed-free}
+use Rattle.reassembly.proofs.Answers.{number-small, repeats-free, clashes-free, too-much, good-length, plus-is}
+
+-- a refusal changes nothing
+pub refusal : (rec room out : List ℕ) (n : ℕ) → Made rec room → Agrees out (after (bare n) rec room out) (refused n (stands rec room))
+unfolding refused replyFor laidOut
+refusal rec room out n m = record { reply = refl; delivered = refl; store = refl; made = m }
+
+more-positive : (c : ℕ) → eqb (moreOf c) 0 ≡ false
+unfolding moreOf
+more-positive c = go (ltb c 255) refl
+  where
+    go : (b : Bool) → ltb c 255 ≡ b → eqb (cond (ltb c 255) (c + 1) c) 0 ≡ false
+    go true e = rw e (ne-eqb (c + 1) 0 (λ z. omega arith))
+    go false e = let l : 255 ≤ c = ltb-false c 255 e in rw e (ne-eqb c 0 (λ z. omega arith))
+
+-- the bytes 1 to 1,500 of a piece that is not refused
+pub size-of : (p : Piece) → badLength p ≡ false → (1 ≤ length (bytesOf p)) × (length (bytesOf p) ≤ 1500)
+size-of p e = let q = good-size (length (bytesOf p)) (sym (good-length p) ∙ e) in (omega (arith, q .0), q .1)
+
+-- A piece that fits a slot whose head is h.
+module _ (h : Head) (rec room : List ℕ) (i : ℕ) (f : Fine h rec room i) (rlong : 8576 ≤ length rec) (long : 1048560 ≤ length room) (hi : i < 16)
+    (p : Piece) (gl : badLength p ≡ false) (gn : badNumber p ≡ false) (lx : labelOf p .expires < 4294967296)
+    (free : isHeld (getD (tableAt rec room i) (labelOf p .number) []) ≡ false) (ok : misfits h (labelOf p) ≡ false)
+    (out : List ℕ) (s : Store) where
+  abbrev l : Label
+  l = labelOf p
+
+  abbrev v : List ℕ
+  v = bytesOf p
+
+  abbrev g : Head
+  g = grownBy h l (length v)
+
+  abbrev m : Message
+  m = messageWith h rec room i
+
+  abbrev rec′ : List ℕ
+  rec′ = keptRec rec i (l .number) (h .total) (length v) g
+
+  abbrev room′ : List ℕ
+  room′ = keptRoom room i (h .total) v
+
+  pub answer-53 : 65535 < h .total + length v → answer (length out) s p i m ≡ refused 53 s
+  unfolding answer
+  answer-53 t =
+      rw (
+        gl,
+        gn,
+        repeats-free h rec room i f long hi p gn free,
+        clashes-free h rec room i f long hi p gn free ∙ ok,
+        lt-leb 16 i hi,
+        too-much h rec room i f long hi p gn ∙ lt-ltb 65535 (h .total + length v) t,
+      ) refl
+
+  module _ (fits : h .total + length v ≤ 65535) where
+    table-is : tableAt rec′ room′ i ≡ set (tableAt rec room i) (l .number) v
+    table-is = table-kept h rec room i f rlong long hi l v (number-small p gn) (size-of p gl .0) (size-of p gl .1) fits lx free ok
+
+    fine′ : Fine g rec′ room′ i
+    fine′ = kept-fine h rec room i f rlong long hi l v (number-small p gn) (size-of p gl .0) (size-of p gl .1) fits lx free ok
+
+    head′ : headAt rec′ i ≡ g
+    head′ = kept-head h rec room i f rlong long hi l v (number-small p gn) (size-of p gl .0) (size-of p gl .1) fits lx free ok
+
+    long-rec′ : 8576 ≤ length rec′
+    long-rec′ = omega (arith, kept-long h rec room i f rlong long hi l v (number-small p gn) (size-of p gl .0) (size-of p gl .1) fits lx free ok)
+
+    long-room′ : 1048560 ≤ length room′
+    long-room′ = omega (arith, length-kept room long i hi (h .total) v fits)
+
+    with-piece : plus m p ≡ messageWith g rec′ room′ i
+    with-piece = plus-is h rec room rec′ room′ i p gn table-is
+
+    whole-is : complete (plus m p) ≡ isWhole g
+    whole-is = ap complete with-piece ∙ complete-is g rec′ room′ i fine′ long-room′ hi
+
+    -- the pieces up to the last number, the new one among them, one after the other
+    bytes-are : wholeOf (plus m p) .bytes ≡ messageOf rec room i (l .number) v (g .last + 1)
+    unfolding wholeOf messageWith messageOf tableAt
+    bytes-are =
+        ap (λ (x : Message). joined (take (suc (x .last)) (x .table))) with-piece
+        ∙ ap (λ (t : List (List ℕ)). joined (take (suc (g .last)) t)) (table-is ∙ sym series-is)
+        ∙ joined-series (pieceOr rec room i (l .number) v) 128 (suc (g .last)) (omega (arith, fine′ .last-small))
+        ∙ ap (upTo (pieceOr rec room i (l .number) v)) (sym (add-one (g .last)))
+      where
+        series-is : series (pieceOr rec room i (l .number) v) 0 128 ≡ set (series (pieceAt rec room i) 0 128) (l .number) v
+        series-is = series-set (pieceAt rec room i) (pieceOr rec room i (l .number) v) 128 (l .number) v [] (number-small p gn)
+            (piece-given rec room i (l .number) v (l .number) refl) (λ j hj q. piece-held rec room i (l .number) v j q)
+
+    whole-of : wholeOf (plus m p) ≡ record { typ = g .kind; expires = g .expires; bytes = messageOf rec room i (l .number) v (g .last + 1) }
+    whole-of = λ j. record { typ = typ-is j; expires = expires-is j; bytes = bytes-are j }
+      where
+        typ-is : wholeOf (plus m p) .typ ≡ g .kind
+        typ-is = unfold wholeOf messageWith in ap (λ (x : Message). x .typ) with-piece
+
+        expires-is : wholeOf (plus m p) .expires ≡ g .expires
+        expires-is = unfold wholeOf messageWith in ap (λ (x : Message). x .expires) with-piece
+
+    pub answer-kept : isWhole g ≡ false → answer (length out) s p i m ≡ record { number = 0; out = none; store = set s i (some (plus m p)) }
+    unfolding answer
+    answer-kept w =
+        rw (
+          gl,
+          gn,
+          repeats-free h rec room i f long hi p gn free,
+          clashes-free h rec room i f long hi p gn free ∙ ok,
+          lt-leb 16 i hi,
+          too-much h rec room i f long hi p gn ∙ le-ltb 65535 (h .total + length v) fits,
+          whole-is ∙ w,
+        ) refl
+
+    answer-whole : isWhole g ≡ true → answer (length out) s p i m
+        ≡ cond (tooShort (length out) (plus m p)) (refused 56 s) (record { number = 60; out = some (wholeOf (plus m p)); store = set s i none })
+    unfolding answer
+    answer-whole w =
+        rw (
+          gl,
+          gn,
+          repeats-free h rec room i f long hi p gn free,
+          clashes-free h rec room i f long hi p gn free ∙ ok,
+          lt-leb 16 i hi,
+          too-much h rec room i f long hi p gn ∙ le-ltb 65535 (h .total + length v) fits,
+          whole-is ∙ w,
+        ) refl
+
+    short-is : tooShort (length out) (plus m p) ≡ ltb (length out) (length (messageOf rec room i (l .number) v (g .last + 1)))
+    unfolding tooShort
+    short-is = ap (λ (z : List ℕ). ltb (length out) (length z)) bytes-are
+
+    slot-kept : slotAt rec′ room′ i ≡ some (plus m p)
+    unfolding slotAt isFree
+    slot-kept =
+        ap (λ (x : Head). cond (eqb (x .count) 0) none (some (messageWith x rec′ room′ i))) head′
+        ∙ ap (λ (b : Bool). cond b none (some (messageWith g rec′ room′ i))) count-is
+        ∙ ap {B = Option Message} some (sym with-piece)
+      where
+        count-is : eqb (g .count) 0 ≡ false
+        count-is = unfold grownBy in more-positive (h .count)
+
+    -- the piece is kept, in a record that differs from one that calls made in slot i alone
+    pub kept-agrees : (rec₀ : List ℕ) → Made rec₀ room → Others rec₀ room rec room i
+        → Agrees out (after (bare 0) rec′ room′ out) (record { number = 0; out = none; store = set (stands rec₀ room) i (some (plus m p)) })
+    unfolding replyFor laidOut
+    kept-agrees rec₀ made o =
+        let o′ : Others rec₀ room rec′ room′ i = others-both rec₀ room rec room rec′ room′ i o (others-kept rec room i (l .number) (h .total) v g rlong long hi (number-small p gn) fits) in
+        record {
+          reply = refl;
+          delivered = refl;
+          store = stands-with rec₀ room rec′ room′ i made long-rec′ long-room′ hi o′ (some (plus m p)) slot-kept;
+          made = made-with rec₀ room rec′ room′ i made long-rec′ long-room′ hi o′ (λ e. subst (λ (x : Head). Fine x rec′ room′ i) (sym head′) fine′);
+        }
+
+    -- the message is finished
+    pub finished-agrees : Made rec room → isWhole g ≡ true → s ≡ stands rec room → Agrees out (finished rec room out i l g v) (answer (length out) s p i m)
+    finished-agrees made w es = subst (λ (a : Answer). Agrees out (finished rec room out i l g v) a) (sym (answer-whole w)) (go (ltb (length out) (length (messageOf rec room i (l .number) v (g .last + 1)))) refl)
+      where
+        r₁ : List ℕ
+        r₁ = withHead rec i noHead
+
+        go : (b : Bool) → ltb (length out) (length (messageOf rec room i (l .number) v (g .last + 1))) ≡ b
+            → Agrees out (finished rec room out i l g v) (cond (tooShort (length out) (plus m p)) (refused 56 s) (record { number = 60; out = some (wholeOf (plus m p)); store = set s i none }))
+        go true e = unfold finished in rw (short-is, e, es) (refusal rec room out 56 made)
+        go false e = unfold finished in rw (short-is, e, es, whole-of)
+            (record {
+              reply = unfold replyFor in refl;
+              delivered = unfold laidOut in refl;
+              store = stands-with rec room (withHead rec i noHead) room i made (omega (arith, length-head rec rlong i hi noHead)) long hi (others-head rec room i noHead rlong hi) none (freed-slot rec room i rlong hi);
+              made = made-with rec room (withHead rec i noHead) room i made (omega (arith, length-head rec rlong i hi noHead)) long hi (others-head rec room i noHead rlong hi)
+                  (λ q. absurd (true≢false (sym (freed-free rec i rlong hi) ∙ q)));
+            })

@@ -1,0 +1,175 @@
+-- A sweep and a new store, on record and room, are the store's. Assumes nothing.
+use mathlib.Core.Path.{_≡_, refl, sym, ap, _∙_, subst}
+use mathlib.Core.Logic.{_≢_}
+use mathlib.Core.Bool.{Bool, true, false, cond, not, _&&_, false≢true, true≢false}
+use mathlib.Core.List.{List, _∷_, map}
+use mathlib.Core.Option.{Option, none, some}
+use Prim.Native.Nat.{ℕ, zero, suc, _+_, _*_, _≤_, _<_}
+use native.Mathlib.Omega.{arith}
+use native.Mathlib.Decide.{ℕ-discrete}
+use lib.Dec.{eqb, ltb, leb}
+use lib.ListN.{length, replicate, length-replicate}
+use borrow.Author.Tests.{lt-ltb, le-ltb, ltb-true, ltb-false}
+use Rattle.wire.specs.Parts.{part, splice}
+use Rattle.wire.proofs.Parts.{part-within, length-splice}
+use Rattle.reassembly.specs.Store.{Message, Store, empty, sweptOne, sweep}
+use Rattle.reassembly.specs.Record.{headOf, headAt, withHead}
+use Rattle.reassembly.specs.Slots.{isFree}
+use Rattle.reassembly.specs.Judge.{noHead, isOld}
+use Rattle.reassembly.specs.Calls.{sweptAt, sweptTo, swept, renewed}
+use Rattle.reassembly.specs.Stands.{series, messageWith, slotAt, stands, Made, Swept, New}
+use Rattle.reassembly.proofs.Series.{series-same}
+use Rattle.reassembly.proofs.Written.{length-head, part-zeros}
+use Rattle.reassembly.proofs.Others.{Others, others-head, slot-same, made-with, freed-slot, freed-free}
+
+-- a slot is swept as the store sweeps it
+old-slot : (second : ℕ) (rec room : List ℕ) (i : ℕ) → isOld second (headAt rec i) ≡ true → sweptOne second (slotAt rec room i) ≡ none
+unfolding isOld slotAt isFree sweptOne messageWith
+old-slot second rec room i e = go (eqb (headAt rec i .count) 0) (leb (headAt rec i .opened + 30) second) refl refl e
+  where
+    go : (b c : Bool) → eqb (headAt rec i .count) 0 ≡ b → leb (headAt rec i .opened + 30) second ≡ c → (not (eqb (headAt rec i .count) 0) && leb (headAt rec i .opened + 30) second) ≡ true
+        → sweptOne second (cond (eqb (headAt rec i .count) 0) none (some (messageWith (headAt rec i) rec room i))) ≡ none
+    go true c p q t = rw p refl
+    go false true p q t = rw (p, q) refl
+    go false false p q t = absurd (false≢true (rw (p, q) at t))
+
+young-slot : (second : ℕ) (rec room : List ℕ) (i : ℕ) → isOld second (headAt rec i) ≡ false → sweptOne second (slotAt rec room i) ≡ slotAt rec room i
+unfolding isOld slotAt isFree sweptOne messageWith
+young-slot second rec room i e = go (eqb (headAt rec i .count) 0) (leb (headAt rec i .opened + 30) second) refl refl e
+  where
+    go : (b c : Bool) → eqb (headAt rec i .count) 0 ≡ b → leb (headAt rec i .opened + 30) second ≡ c → (not (eqb (headAt rec i .count) 0) && leb (headAt rec i .opened + 30) second) ≡ false
+        → sweptOne second (cond (eqb (headAt rec i .count) 0) none (some (messageWith (headAt rec i) rec room i))) ≡ cond (eqb (headAt rec i .count) 0) none (some (messageWith (headAt rec i) rec room i))
+    go true c p q t = rw p refl
+    go false true p q t = absurd (true≢false (rw (p, q) at t))
+    go false false p q t = rw (p, q) refl
+
+-- what one slot swept does
+record One (second : ℕ) (rec room rec′ : List ℕ) (i : ℕ) : Type 0 where
+  made : Made rec′ room
+  here : slotAt rec′ room i ≡ sweptOne second (slotAt rec room i)
+  there : (j : ℕ) → j < 16 → j ≢ i → slotAt rec′ room j ≡ slotAt rec room j
+
+one-swept : (second : ℕ) (rec room : List ℕ) (i : ℕ) → i < 16 → Made rec room → One second rec room (sweptAt second rec i) i
+unfolding sweptAt
+one-swept second rec room i hi m = go (isOld second (headAt rec i)) refl
+  where
+    o : Others rec room (withHead rec i noHead) room i
+    o = others-head rec room i noHead (m .record-long) hi
+
+    go : (b : Bool) → isOld second (headAt rec i) ≡ b → One second rec room (cond (isOld second (headAt rec i)) (withHead rec i noHead) rec) i
+    go true e =
+        rw e
+        (record {
+          made = made-with rec room (withHead rec i noHead) room i m (omega (arith, length-head rec (m .record-long) i hi noHead, m .record-long)) (m .room-long) hi o
+              (λ q. absurd (true≢false (sym (freed-free rec i (m .record-long) hi) ∙ q)));
+          here = freed-slot rec room i (m .record-long) hi ∙ sym (old-slot second rec room i e);
+          there = λ j hj q. slot-same rec room (withHead rec i noHead) room j (λ k hk. o .entries j k hj q hk) refl (o .heads j hj q);
+        })
+    go false e = rw e (record { made = m; here = sym (young-slot second rec room i e); there = λ j hj q. refl })
+
+-- the first n slots swept
+record Upto (second : ℕ) (rec room rec′ : List ℕ) (n : ℕ) : Type 0 where
+  made : Made rec′ room
+  slots : (j : ℕ) → j < 16 → slotAt rec′ room j ≡ cond (ltb j n) (sweptOne second (slotAt rec room j)) (slotAt rec room j)
+
+swept-upto : (second : ℕ) (rec room : List ℕ) → Made rec room → (n : ℕ) → n ≤ 16 → Upto second rec room (sweptTo second rec n) n
+swept-upto second rec room m zero h = record { made = m; slots = λ j hj. rw (le-ltb j 0 (omega arith)) refl }
+swept-upto second rec room m (suc n) h = more (swept-upto second rec room m n (omega arith))
+  where
+    more : Upto second rec room (sweptTo second rec n) n → Upto second rec room (sweptAt second (sweptTo second rec n) n) (suc n)
+    more u = record { made = w .made; slots = λ j hj. at j hj (ℕ-discrete j n) (ltb j n) refl }
+      where
+        w : One second (sweptTo second rec n) room (sweptAt second (sweptTo second rec n) n) n
+        w = one-swept second (sweptTo second rec n) room n (omega arith) (u .made)
+
+        at : (j : ℕ) → j < 16 → Dec (j ≡ n) → (b : Bool) → ltb j n ≡ b
+            → slotAt (sweptAt second (sweptTo second rec n) n) room j ≡ cond (ltb j (suc n)) (sweptOne second (slotAt rec room j)) (slotAt rec room j)
+        at j hj (yes q) b e =
+            rw (q, lt-ltb n (suc n) (omega arith))
+            (w .here ∙ ap (sweptOne second) (u .slots n (omega arith) ∙ rw (le-ltb n n (omega arith)) refl))
+        at j hj (no q) true e =
+            let l : j < n = ltb-true j n e in
+            rw (lt-ltb j (suc n) (omega arith)) (w .there j hj q ∙ u .slots j hj ∙ rw e refl)
+        at j hj (no q) false e =
+            let l : n ≤ j = ltb-false j n e in
+            let ne : j ≡ n → ⊥ = q in
+            rw (le-ltb j (suc n) (omega arith)) (w .there j hj q ∙ u .slots j hj ∙ rw e refl)
+
+map-series : (g : Option Message → Option Message) (f : ℕ → Option Message) (i n : ℕ) → map g (series f i n) ≡ series (λ k. g (f k)) i n
+map-series g f i zero = refl
+map-series g f i (suc n) = ap {B = Store} (λ (z : Store). g (f i) ∷ z) (map-series g f (i + 1) n)
+
+pub sweep-stands : (second : ℕ) (rec room : List ℕ) → Made rec room → stands (swept second rec) room ≡ sweep second (stands rec room)
+unfolding swept stands sweep
+sweep-stands second rec room m =
+    let u : Upto second rec room (sweptTo second rec 16) 16 = swept-upto second rec room m 16 (omega arith) in
+    ap (λ (b : Bool). series (slotAt (cond b rec (sweptTo second rec 16)) room) 0 16) (le-ltb (length rec) 8576 (m .record-long))
+    ∙ series-same (slotAt (sweptTo second rec 16) room) (λ k. sweptOne second (slotAt rec room k)) 16 none (λ k hk. u .slots k hk ∙ rw (lt-ltb k 16 hk) refl)
+    ∙ sym (map-series (sweptOne second) (slotAt rec room) 0 16)
+
+pub sweep-made : (second : ℕ) (rec room : List ℕ) → Made rec room → Made (swept second rec) room
+unfolding swept
+sweep-made second rec room m = rw (le-ltb (length rec) 8576 (m .record-long)) (swept-upto second rec room m 16 (omega arith) .made)
+
+-- a new store stands for the empty one
+none-series : (i n : ℕ) → _≡_ {A = Store} (series (λ k. none) i n) (replicate n none)
+none-series i zero = refl
+none-series i (suc n) = ap {B = Store} (λ (z : Store). none ∷ z) (none-series (i + 1) n)
+
+count-zero : headOf (replicate 24 0) .count ≡ 0
+unfolding headOf
+count-zero = refl
+
+module _ (rec room : List ℕ) (n : ℕ) (lr : n ≤ length rec) (lm : 1048560 ≤ length room) (enough : 8576 ≤ n) where
+  abbrev blank : List ℕ
+  blank = splice rec 0 (replicate n 0)
+
+  wide : length {A = ℕ} (replicate n 0) ≡ n
+  wide = length-replicate {A = ℕ} n 0
+
+  blank-long : length blank ≡ length rec
+  blank-long = length-splice rec 0 (replicate n 0) (omega (arith, wide))
+
+  blank-free : (i : ℕ) → i < 16 → isFree blank i ≡ true
+  unfolding isFree headAt
+  blank-free i hi =
+      let z : i * 24 ≡ 0 + i * 24 = omega arith in
+      ap (λ (l : List ℕ). eqb (headOf l .count) 0)
+      (ap (λ (k : ℕ). part blank k 24) z
+      ∙ part-within rec 0 (replicate n 0) (omega (arith, wide)) (i * 24) 24 (omega (arith, wide))
+      ∙ part-zeros n (i * 24) 24 (omega arith))
+      ∙ ap (λ (k : ℕ). eqb k 0) count-zero
+
+  blank-slot : (i : ℕ) → i < 16 → slotAt blank room i ≡ none
+  unfolding slotAt
+  blank-slot i hi = rw (blank-free i hi) refl
+
+  blank-stands : stands blank room ≡ empty
+  unfolding stands
+  blank-stands = series-same (slotAt blank room) (λ k. none) 16 none blank-slot ∙ none-series 0 16
+
+  blank-made : Made blank room
+  blank-made = record { record-long = omega (arith, blank-long); room-long = lm; slots = λ i hi e. absurd (true≢false (sym (blank-free i hi) ∙ e)) }
+
+pub new-stands : (rec room : List ℕ) → 8576 ≤ length rec → 1048560 ≤ length room → stands (renewed rec) room ≡ empty
+unfolding renewed
+new-stands rec room lr lm = rw (le-ltb (length rec) 8576 lr) (blank-stands rec room 8576 lr lm (omega arith))
+
+pub new-made : (rec room : List ℕ) → 8576 ≤ length rec → 1048560 ≤ length room → Made (renewed rec) room
+unfolding renewed
+new-made rec room lr lm = rw (le-ltb (length rec) 8576 lr) (blank-made rec room 8576 lr lm (omega arith))
+
+-- The promises of the calls, from the equations that they state.
+pub sweep-promise : (second : ℕ) (rec rec′ : List ℕ) → rec′ ≡ swept second rec → Swept second rec rec′
+sweep-promise second rec rec′ e =
+    record {
+      store = λ room m. ap (λ (z : List ℕ). stands z room) e ∙ sweep-stands second rec room m;
+      made = λ room m. subst (λ (z : List ℕ). Made z room) (sym e) (sweep-made second rec room m);
+    }
+
+pub new-promise : (rec rec′ : List ℕ) → rec′ ≡ renewed rec → New rec rec′
+new-promise rec rec′ e =
+    record {
+      store = λ room lr lm. ap (λ (z : List ℕ). stands z room) e ∙ new-stands rec room lr lm;
+      made = λ room lr lm. subst (λ (z : List ℕ). Made z room) (sym e) (new-made rec room lr lm);
+    }

@@ -1,0 +1,211 @@
+-- What is read of a record and a room after a head, an entry or a piece was put. Assumes nothing.
+use mathlib.Core.Path.{_≡_, refl, sym, ap, _∙_}
+use mathlib.Core.Logic.{_≢_, _⊎_, inl, inr}
+use mathlib.Core.Bool.{Bool, true, false}
+use mathlib.Core.List.{List, [], _∷_, _++_}
+use Prim.Native.Nat.{ℕ, _+_, _-_, _*_, _/_, _%_, _≤_, _<_}
+use native.Mathlib.Omega.{arith}
+use lib.Dec.{ltb}
+use lib.ListN.{length, replicate, length-replicate, getD-replicate, length-append}
+use lib.Seq.{ext-getD}
+use borrow.Author.Tests.{ltb-true, ltb-false}
+use Rattle.wire.specs.Parts.{part, splice}
+use Rattle.wire.specs.Numbers.{little, littleAt}
+use Rattle.wire.proofs.Parts.{part-same, part-other, part-within, part-inside, length-splice, length-part, getD-part}
+use Rattle.wire.proofs.Numbers.{little-append, length-little}
+use Rattle.reassembly.specs.declared.record.Head.{Head}
+use Rattle.reassembly.specs.declared.record.Entry.{Entry}
+use Rattle.reassembly.specs.Record.{headOf, headBytes, entryOf, entryBytes, headAt, withHead, entryAt, withEntry, cleared, roomOf}
+use Rattle.reassembly.specs.Calls.{keptRoom}
+use Rattle.reassembly.proofs.Fields.{HeadFits, head-written, entry-written}
+
+-- two numbers that differ are one before the other
+pub apart : (i j : ℕ) → i ≢ j → (i < j) ⊎ (j < i)
+apart i j q = go (ltb i j) refl
+  where
+    go : (b : Bool) → ltb i j ≡ b → (i < j) ⊎ (j < i)
+    go true e = inl (ltb-true i j e)
+    go false e = let le : j ≤ i = ltb-false i j e in inr (lt le)
+      where
+        lt : j ≤ i → j < i
+        lt le = let ne : i ≡ j → ⊥ = q in omega arith
+
+pub head-wide : (h : Head) → length (headBytes h) ≡ 24
+unfolding headBytes
+head-wide h = simp (length-append, length-little) refl
+
+pub entry-wide : (e : Entry) → length (entryBytes e) ≡ 4
+unfolding entryBytes
+entry-wide e = simp (length-append, length-little) refl
+
+digits2 : (x : ℕ) → x % 256 + (x / 256 + 0 * 256) * 256 ≡ x
+digits2 x = omega arith
+
+digits4 : (x : ℕ) → x % 256 + (x / 256 % 256 + (x / 65536 % 256 + (x / 16777216 + 0 * 256) * 256) * 256) * 256 ≡ x
+digits4 x = omega arith
+
+-- a head and an entry that were put are read back
+abbrev fourOf : ℕ → List ℕ
+fourOf x = x % 256 ∷ x / 256 % 256 ∷ x / 65536 % 256 ∷ x / 16777216 ∷ []
+
+little4 : (x : ℕ) → little (fourOf x) ≡ x
+unfolding little
+little4 x = digits4 x
+
+little8 : (x : ℕ) → little (fourOf (x % 4294967296) ++ fourOf (x / 4294967296)) ≡ x
+little8 x =
+    little-append (fourOf (x % 4294967296)) (fourOf (x / 4294967296))
+    ∙ ap (λ (a : ℕ). a + little (fourOf (x / 4294967296)) * 4294967296) (little4 (x % 4294967296))
+    ∙ ap (λ (a : ℕ). x % 4294967296 + a * 4294967296) (little4 (x / 4294967296))
+    ∙ (omega arith)
+
+pub head-back : (h : Head) → HeadFits h → headOf (headBytes h) ≡ h
+unfolding headOf littleAt part
+head-back h f =
+    ap headOf (head-written h f)
+    ∙ (λ j. record {
+      id = little4 (h .id) j;
+      opened = little8 (h .opened) j;
+      expires = little4 (h .expires) j;
+      total = two (h .total) j;
+      count = h .count;
+      last = h .last;
+      top = h .top;
+      kind = h .kind;
+    })
+  where
+    two : (x : ℕ) → little (x % 256 ∷ x / 256 ∷ []) ≡ x
+    two x = unfold little in digits2 x
+
+pub entry-back : (e : Entry) → e .place < 65536 → e .len < 65536 → entryOf (entryBytes e) ≡ e
+unfolding entryOf littleAt part little
+entry-back e p l =
+    ap entryOf (entry-written e p l)
+    ∙ (λ j. record { place = digits2 (e .place) j; len = digits2 (e .len) j })
+
+-- zeros
+pub part-zeros : (n p m : ℕ) → p + m ≤ n → part {A = ℕ} (replicate n 0) p m ≡ replicate m 0
+part-zeros n p m h =
+    let lp : length (part {A = ℕ} (replicate n 0) p m) ≡ m = length-part {A = ℕ} (replicate n 0) p m (omega (arith, length-replicate {A = ℕ} n 0)) in
+    ext-getD {A = ℕ} 0 (part (replicate n 0) p m) (replicate m 0) (lp ∙ sym (length-replicate {A = ℕ} m 0))
+    (λ k kl. getD-part {A = ℕ} (replicate n 0) p m k 0 (omega arith) ∙ getD-replicate n (p + k) 0 0 (omega arith) ∙ sym (getD-replicate m k 0 0 (omega arith)))
+
+abbrev pub noEntry : Entry
+noEntry = record { place = 0; len = 0 }
+
+entry-zeros : entryOf (replicate 4 0) ≡ noEntry
+unfolding entryOf littleAt part little
+entry-zeros = refl
+
+module _ (rec : List ℕ) (long : 8576 ≤ length rec) (i : ℕ) (hi : i < 16) where
+  module _ (h : Head) where
+    fits-head : i * 24 + length (headBytes h) ≤ length rec
+    fits-head = omega (arith, head-wide h)
+
+    pub length-head : length (withHead rec i h) ≡ length rec
+    unfolding withHead
+    length-head = length-splice rec (i * 24) (headBytes h) fits-head
+
+    pub head-same : HeadFits h → headAt (withHead rec i h) i ≡ h
+    unfolding withHead headAt
+    head-same f =
+        ap (λ (n : ℕ). headOf (part (splice rec (i * 24) (headBytes h)) (i * 24) n)) (sym (head-wide h))
+        ∙ ap headOf (part-same rec (i * 24) (headBytes h) fits-head)
+        ∙ head-back h f
+
+    pub head-other : (j : ℕ) → j ≢ i → headAt (withHead rec i h) j ≡ headAt rec j
+    unfolding withHead headAt
+    head-other j q = ap headOf (part-other rec (i * 24) (headBytes h) fits-head (j * 24) 24 (side (apart j i q)))
+      where
+        side : (j < i) ⊎ (i < j) → (j * 24 + 24 ≤ i * 24) ⊎ (i * 24 + length (headBytes h) ≤ j * 24)
+        side (inl a) = inl (omega arith)
+        side (inr a) = inr (omega (arith, head-wide h))
+
+    pub head-entry : (j k : ℕ) → entryAt (withHead rec i h) j k ≡ entryAt rec j k
+    unfolding withHead entryAt
+    head-entry j k = ap entryOf (part-other rec (i * 24) (headBytes h) fits-head (384 + j * 512 + k * 4) 4 (inr (omega (arith, head-wide h))))
+
+  module _ (m : ℕ) (hm : m < 128) (e : Entry) where
+    fits-entry : 384 + i * 512 + m * 4 + length (entryBytes e) ≤ length rec
+    fits-entry = omega (arith, entry-wide e)
+
+    pub length-entry : length (withEntry rec i m e) ≡ length rec
+    unfolding withEntry
+    length-entry = length-splice rec (384 + i * 512 + m * 4) (entryBytes e) fits-entry
+
+    pub entry-same : e .place < 65536 → e .len < 65536 → entryAt (withEntry rec i m e) i m ≡ e
+    unfolding withEntry entryAt
+    entry-same p l =
+        ap (λ (n : ℕ). entryOf (part (splice rec (384 + i * 512 + m * 4) (entryBytes e)) (384 + i * 512 + m * 4) n)) (sym (entry-wide e))
+        ∙ ap entryOf (part-same rec (384 + i * 512 + m * 4) (entryBytes e) fits-entry)
+        ∙ entry-back e p l
+
+    pub entry-beside : (k : ℕ) → k ≢ m → entryAt (withEntry rec i m e) i k ≡ entryAt rec i k
+    unfolding withEntry entryAt
+    entry-beside k q = ap entryOf (part-other rec (384 + i * 512 + m * 4) (entryBytes e) fits-entry (384 + i * 512 + k * 4) 4 (side (apart k m q)))
+      where
+        side : (k < m) ⊎ (m < k) → (384 + i * 512 + k * 4 + 4 ≤ 384 + i * 512 + m * 4) ⊎ (384 + i * 512 + m * 4 + length (entryBytes e) ≤ 384 + i * 512 + k * 4)
+        side (inl a) = inl (omega arith)
+        side (inr a) = inr (omega (arith, entry-wide e))
+
+    pub entry-other : (j k : ℕ) → j ≢ i → k < 128 → entryAt (withEntry rec i m e) j k ≡ entryAt rec j k
+    unfolding withEntry entryAt
+    entry-other j k q hk = ap entryOf (part-other rec (384 + i * 512 + m * 4) (entryBytes e) fits-entry (384 + j * 512 + k * 4) 4 (side (apart j i q)))
+      where
+        side : (j < i) ⊎ (i < j) → (384 + j * 512 + k * 4 + 4 ≤ 384 + i * 512 + m * 4) ⊎ (384 + i * 512 + m * 4 + length (entryBytes e) ≤ 384 + j * 512 + k * 4)
+        side (inl a) = inl (omega arith)
+        side (inr a) = inr (omega (arith, entry-wide e))
+
+    pub entry-head : (j : ℕ) → j < 16 → headAt (withEntry rec i m e) j ≡ headAt rec j
+    unfolding withEntry headAt
+    entry-head j hj = ap headOf (part-other rec (384 + i * 512 + m * 4) (entryBytes e) fits-entry (j * 24) 24 (inl (omega arith)))
+
+  zeros : List ℕ
+  zeros = replicate 512 0
+
+  wide-zeros : length zeros ≡ 512
+  unfolding zeros
+  wide-zeros = length-replicate {A = ℕ} 512 0
+
+  fits-zeros : 384 + i * 512 + length zeros ≤ length rec
+  fits-zeros = omega (arith, wide-zeros)
+
+  pub length-cleared : length (cleared rec i) ≡ length rec
+  unfolding cleared zeros
+  length-cleared = length-splice rec (384 + i * 512) zeros fits-zeros
+
+  pub cleared-head : (j : ℕ) → j < 16 → headAt (cleared rec i) j ≡ headAt rec j
+  unfolding cleared headAt zeros
+  cleared-head j hj = ap headOf (part-other rec (384 + i * 512) zeros fits-zeros (j * 24) 24 (inl (omega arith)))
+
+  pub cleared-other : (j k : ℕ) → j ≢ i → k < 128 → entryAt (cleared rec i) j k ≡ entryAt rec j k
+  unfolding cleared entryAt zeros
+  cleared-other j k q hk = ap entryOf (part-other rec (384 + i * 512) zeros fits-zeros (384 + j * 512 + k * 4) 4 (side (apart j i q)))
+    where
+      side : (j < i) ⊎ (i < j) → (384 + j * 512 + k * 4 + 4 ≤ 384 + i * 512) ⊎ (384 + i * 512 + length zeros ≤ 384 + j * 512 + k * 4)
+      side (inl a) = inl (omega arith)
+      side (inr a) = inr (omega (arith, wide-zeros))
+
+  pub cleared-entry : (k : ℕ) → k < 128 → entryAt (cleared rec i) i k ≡ noEntry
+  unfolding cleared entryAt zeros
+  cleared-entry k hk =
+      ap entryOf (part-within rec (384 + i * 512) zeros fits-zeros (k * 4) 4 (omega (arith, wide-zeros)) ∙ part-zeros 512 (k * 4) 4 (omega arith))
+      ∙ entry-zeros
+
+-- the room of slot i with a piece put after t bytes, and the other slots' rooms
+module _ (room : List ℕ) (long : 1048560 ≤ length room) (i : ℕ) (hi : i < 16) (t : ℕ) (v : List ℕ) (fits : t + length v ≤ 65535) where
+  pub length-kept : length (keptRoom room i t v) ≡ length room
+  unfolding keptRoom
+  length-kept = length-splice room (i * 65535 + t) v (omega arith)
+
+  pub kept-room : roomOf (keptRoom room i t v) i ≡ splice (roomOf room i) t v
+  unfolding keptRoom roomOf
+  kept-room = part-inside room (i * 65535) 65535 t v (omega arith) fits
+
+  pub kept-other : (j : ℕ) → j ≢ i → roomOf (keptRoom room i t v) j ≡ roomOf room j
+  unfolding keptRoom roomOf
+  kept-other j q = part-other room (i * 65535 + t) v (omega arith) (j * 65535) 65535 (side (apart j i q))
+    where
+      side : (j < i) ⊎ (i < j) → (j * 65535 + 65535 ≤ i * 65535 + t) ⊎ (i * 65535 + t + length v ≤ j * 65535)
+      side (inl a) = inl (omega arith)
+      side (inr a) = inr (omega arith)

@@ -1,0 +1,50 @@
+-- The store's record in bytes: 16 heads of 24 bytes, then 16 tables of 128 entries of 4 bytes; and the pieces in the room.
+use mathlib.Core.List.{List, [], _∷_, _++_}
+use Prim.Native.Nat.{ℕ, _+_, _*_}
+use lib.ListN.{getD, replicate}
+use Rattle.wire.specs.Parts.{part, splice}
+use Rattle.wire.specs.Numbers.{littleAt, littleBytes}
+use Rattle.reassembly.specs.declared.record.Head.{Head}
+use Rattle.reassembly.specs.declared.record.Entry.{Entry}
+
+-- the head that 24 bytes are, and the bytes of a head
+unfoldable pub headOf : List ℕ → Head
+headOf l =
+    record { id = littleAt 4 l 0; opened = littleAt 8 l 4; expires = littleAt 4 l 12; total = littleAt 2 l 16; count = getD l 18 0; last = getD l 19 0; top = getD l 20 0; kind = getD l 21 0 }
+
+unfoldable pub headBytes : Head → List ℕ
+headBytes h =
+    littleBytes 4 (h .id) ++ littleBytes 8 (h .opened) ++ littleBytes 4 (h .expires) ++ littleBytes 2 (h .total)
+    ++ (h .count ∷ h .last ∷ h .top ∷ h .kind ∷ 0 ∷ 0 ∷ [])
+
+-- the entry that 4 bytes are, and the bytes of an entry
+unfoldable pub entryOf : List ℕ → Entry
+entryOf l = record { place = littleAt 2 l 0; len = littleAt 2 l 2 }
+
+unfoldable pub entryBytes : Entry → List ℕ
+entryBytes e = littleBytes 2 (e .place) ++ littleBytes 2 (e .len)
+
+-- slot i's head, and the record with another there
+unfoldable pub headAt : List ℕ → ℕ → Head
+headAt rec i = headOf (part rec (i * 24) 24)
+
+unfoldable pub withHead : List ℕ → ℕ → Head → List ℕ
+withHead rec i h = splice rec (i * 24) (headBytes h)
+
+-- the entry of number k in slot i, and the record with another there
+unfoldable pub entryAt : List ℕ → ℕ → ℕ → Entry
+entryAt rec i k = entryOf (part rec (384 + i * 512 + k * 4) 4)
+
+unfoldable pub withEntry : List ℕ → ℕ → ℕ → Entry → List ℕ
+withEntry rec i k e = splice rec (384 + i * 512 + k * 4) (entryBytes e)
+
+-- the record with no number of slot i held
+unfoldable pub cleared : List ℕ → ℕ → List ℕ
+cleared rec i = splice rec (384 + i * 512) (replicate 512 0)
+
+-- slot i's own room, and the bytes that the entry of number k names there: a part, so never a byte outside
+unfoldable pub roomOf : List ℕ → ℕ → List ℕ
+roomOf room i = part room (i * 65535) 65535
+
+unfoldable pub pieceAt : List ℕ → List ℕ → ℕ → ℕ → List ℕ
+pieceAt rec room i k = part (roomOf room i) (entryAt rec i k .place) (entryAt rec i k .len)

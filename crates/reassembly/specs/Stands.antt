@@ -1,0 +1,94 @@
+-- What a record and a room stand for: a store of specs/Store.antt; and what it means that a call does on them what the store does.
+use mathlib.Core.Path.{_≡_}
+use mathlib.Core.Bool.{true, false, cond}
+use mathlib.Core.List.{List, [], _∷_}
+use mathlib.Core.Option.{Option, none, some}
+use Prim.Native.Nat.{ℕ, zero, suc, _+_, _≤_, _<_}
+use lib.ListN.{length, getD}
+use Rattle.wire.specs.Parts.{splice}
+use Rattle.reassembly.specs.declared.record.Head.{Head}
+use Rattle.reassembly.specs.declared.judge.Label.{Label}
+use Rattle.reassembly.specs.declared.Reply.{Reply}
+use Rattle.reassembly.specs.Store.{Piece, first, follow, Message, Store, Whole, Answer, isHeld, total, sweep, empty}
+use Rattle.reassembly.specs.Record.{headAt, entryAt, pieceAt}
+use Rattle.reassembly.specs.Slots.{isFree}
+use Rattle.reassembly.specs.Calls.{After, bare}
+
+-- the values of f at n numbers from i on
+abbrev pub series : {A : Type 0} → (ℕ → A) → ℕ → ℕ → List A
+series f i zero = []
+series f i (suc n) = f i ∷ series f (i + 1) n
+
+-- the bytes held of each number of slot i
+unfoldable pub tableAt : List ℕ → List ℕ → ℕ → List (List ℕ)
+tableAt rec room i = series (pieceAt rec room i) 0 128
+
+-- the message of slot i, whose head is h
+unfoldable pub messageWith : Head → List ℕ → List ℕ → ℕ → Message
+messageWith h rec room i = record { id = h .id; opened = h .opened; typ = h .kind; expires = h .expires; last = h .last; table = tableAt rec room i }
+
+-- a slot that holds no piece is free
+unfoldable pub slotAt : List ℕ → List ℕ → ℕ → Option Message
+slotAt rec room i = cond (isFree rec i) none (some (messageWith (headAt rec i) rec room i))
+
+-- the store that a record and a room stand for
+unfoldable pub stands : List ℕ → List ℕ → Store
+stands rec room = series (slotAt rec room) 0 16
+
+-- how many of some numbers are held
+abbrev pub heldOf : List (List ℕ) → ℕ
+heldOf [] = 0
+heldOf (x ∷ xs) = cond (isHeld x) 1 0 + heldOf xs
+
+-- The head h of slot i agrees with the slot's entries, as every call leaves it: the pieces lie in the first `total` bytes of the slot's room, and
+-- are as long together; `count` numbers are held, `top` is the highest; none is above a known last.
+pub record Fine (h : Head) (rec room : List ℕ) (i : ℕ) : Type 0 where
+  pub id : h .id < 4294967296
+  pub opened : h .opened < 18446744073709551616
+  pub expires : h .expires < 4294967296
+  pub small : h .total < 65536
+  pub inside : (k : ℕ) → k < 128 → entryAt rec i k .place + entryAt rec i k .len ≤ h .total
+  pub filled : h .total ≡ total (tableAt rec room i)
+  pub counted : h .count ≡ heldOf (tableAt rec room i)
+  pub top-held : 0 < h .top → isHeld (getD (tableAt rec room i) (h .top) []) ≡ true
+  pub topmost : (k : ℕ) → isHeld (getD (tableAt rec room i) k []) ≡ true → k ≤ h .top
+  pub last-small : h .last < 128
+  pub lastmost : 0 < h .last → (k : ℕ) → isHeld (getD (tableAt rec room i) k []) ≡ true → k ≤ h .last
+
+-- A record and a room as the calls leave them. (All zero is one: `New`.)
+pub record Made (rec room : List ℕ) : Type 0 where
+  pub record-long : 8576 ≤ length rec
+  pub room-long : 1048560 ≤ length room
+  pub slots : (i : ℕ) → i < 16 → isFree rec i ≡ false → Fine (headAt rec i) rec room i
+
+-- what a piece of the store is to a call: a label beside the bytes
+unfoldable pub labelOf : Piece → Label
+labelOf (first id typ expires bytes) = record { id = id; number = 0; last = false; kind = typ; expires = expires }
+labelOf (follow id number final bytes) = record { id = id; number = number; last = final; kind = 0; expires = 0 }
+
+-- the store's answer as a call's reply
+unfoldable pub replyFor : ℕ → Option Whole → Reply
+replyFor n none = bare n
+replyFor n (some w) = record { number = n; kind = w .typ; expires = w .expires; length = length (w .bytes) }
+
+-- a message that came out stands at the start of the assembly buffer; the rest stays
+unfoldable pub laidOut : List ℕ → Option Whole → List ℕ
+laidOut out none = out
+laidOut out (some w) = splice out 0 (w .bytes)
+
+-- A call did to record, room and assembly buffer what the store's answer says, and left what a call may be lent again.
+pub record Agrees (out : List ℕ) (x : After) (a : Answer) : Type 0 where
+  pub reply : x .reply ≡ replyFor (a .number) (a .out)
+  pub delivered : x .out ≡ laidOut out (a .out)
+  pub store : stands (x .rec) (x .room) ≡ a .store
+  pub made : Made (x .rec) (x .room)
+
+-- A sweep did to what the record stands for, with any room that it was used with, what the store's sweep does.
+pub record Swept (second : ℕ) (rec rec′ : List ℕ) : Type 0 where
+  pub store : (room : List ℕ) → Made rec room → stands rec′ room ≡ sweep second (stands rec room)
+  pub made : (room : List ℕ) → Made rec room → Made rec′ room
+
+-- A new record stands for the empty store, with any room of the lent length.
+pub record New (rec rec′ : List ℕ) : Type 0 where
+  pub store : (room : List ℕ) → 8576 ≤ length rec → 1048560 ≤ length room → stands rec′ room ≡ empty
+  pub made : (room : List ℕ) → 8576 ≤ length rec → 1048560 ≤ length room → Made rec′ room

@@ -1,0 +1,180 @@
+-- Reassembly (document 01, "Reassembly" and "Numbers returned", rows 50 to 60): what the store does with a piece, and a sweep.
+use mathlib.Core.Bool.{Bool, true, false, cond, _&&_, _||_, Bool·beq}
+use mathlib.Core.List.{List, [], _∷_, _++_, map}
+use mathlib.Core.Option.{Option, none, some}
+use Prim.Native.Nat.{ℕ, suc, _+_}
+use lib.ListN.{length, getD, take, drop, set, replicate}
+use lib.Dec.{ltb, leb, eqb}
+use Rattle.wire.specs.Parts.{same}
+
+-- A piece: a first fragment (number 0, with the message's head) or a follow-on fragment (a number, and whether it is the last).
+pub data Piece : Type 0 where
+  first : (id typ expires : ℕ) (bytes : List ℕ) → Piece
+  follow : (id number : ℕ) (final : Bool) (bytes : List ℕ) → Piece
+
+unfoldable pub idOf : Piece → ℕ
+idOf (first id typ expires bytes) = id
+idOf (follow id number final bytes) = id
+
+unfoldable pub numberOf : Piece → ℕ
+numberOf (first id typ expires bytes) = 0
+numberOf (follow id number final bytes) = number
+
+unfoldable pub finalOf : Piece → Bool
+finalOf (first id typ expires bytes) = false
+finalOf (follow id number final bytes) = final
+
+unfoldable pub bytesOf : Piece → List ℕ
+bytesOf (first id typ expires bytes) = bytes
+bytesOf (follow id number final bytes) = bytes
+
+-- A message being rebuilt. `table` has 128 places, the bytes held of each number. A piece has at least one byte, so [] says "not held".
+-- `typ` and `expires` are the head, once number 0 is held. `last` is the last number, once it is known, and 0 before: a last piece is a follow-on.
+pub record Message : Type 0 where
+  pub id : ℕ
+  pub opened : ℕ
+  pub typ : ℕ
+  pub expires : ℕ
+  pub last : ℕ
+  pub table : List (List ℕ)
+
+-- 16 places, each free or a message
+abbrev pub Store : Type 0
+Store = List (Option Message)
+
+abbrev pub empty : Store
+empty = replicate 16 none
+
+-- What comes out when a message is finished: its head and its bytes.
+pub record Whole : Type 0 where
+  pub typ : ℕ
+  pub expires : ℕ
+  pub bytes : List ℕ
+
+-- A call's answer: the number, the message that came out, the next store.
+pub record Answer : Type 0 where
+  pub number : ℕ
+  pub out : Option Whole
+  pub store : Store
+
+-- Whether a number is held, all of some are, some of them is; their bytes counted, and one after the other.
+abbrev pub isHeld : List ℕ → Bool
+isHeld [] = false
+isHeld (b ∷ bs) = true
+
+abbrev pub allHeld : List (List ℕ) → Bool
+allHeld [] = true
+allHeld (x ∷ xs) = isHeld x && allHeld xs
+
+abbrev pub someHeld : List (List ℕ) → Bool
+someHeld [] = false
+someHeld (x ∷ xs) = isHeld x || someHeld xs
+
+abbrev pub total : List (List ℕ) → ℕ
+total [] = 0
+total (x ∷ xs) = length x + total xs
+
+abbrev pub joined : List (List ℕ) → List ℕ
+joined [] = []
+joined (x ∷ xs) = x ++ joined xs
+
+-- The place of the open message with this id, and the first free place. Where there is none, the number of places.
+unfoldable pub findId : ℕ → Store → ℕ
+findId id [] = 0
+findId id (none ∷ s) = suc (findId id s)
+findId id (some m ∷ s) = cond (eqb (m .id) id) 0 (suc (findId id s))
+
+unfoldable pub findFree : Store → ℕ
+findFree [] = 0
+findFree (none ∷ s) = 0
+findFree (some m ∷ s) = suc (findFree s)
+
+-- Where a piece of this id goes: to its open message, else to the first free place.
+unfoldable pub placeOf : ℕ → Store → ℕ
+placeOf id s = cond (ltb (findId id s) (length s)) (findId id s) (findFree s)
+
+-- What stands there: the open message, or a new one with nothing held.
+unfoldable pub messageOr : Option Message → ℕ → ℕ → Message
+messageOr none id now = record { id = id; opened = now; typ = 0; expires = 0; last = 0; table = replicate 128 [] }
+messageOr (some m) id now = m
+
+-- The message with one piece more
+unfoldable pub plus : Message → Piece → Message
+plus m (first id typ expires bytes) =
+    record { id = m .id; opened = m .opened; typ = typ; expires = expires; last = m .last; table = set (m .table) 0 bytes }
+plus m (follow id number final bytes) =
+    record { id = m .id; opened = m .opened; typ = m .typ; expires = m .expires; last = cond final number (m .last); table = set (m .table) number bytes }
+
+-- 50: the length is 0 or above 1,500
+unfoldable pub badLength : Piece → Bool
+badLength p = eqb (length (bytesOf p)) 0 || ltb 1500 (length (bytesOf p))
+
+-- 51: a follow-on's number is 0 or above 127
+unfoldable pub badNumber : Piece → Bool
+badNumber (first id typ expires bytes) = false
+badNumber (follow id number final bytes) = eqb number 0 || ltb 127 number
+
+-- 54: an exact repeat of a held piece: the same number, bytes, and head or flag
+unfoldable pub repeats : Message → Piece → Bool
+repeats m (first id typ expires bytes) =
+    isHeld (getD (m .table) 0 []) && same (getD (m .table) 0 []) bytes && eqb (m .typ) typ && eqb (m .expires) expires
+repeats m (follow id number final bytes) =
+    isHeld (getD (m .table) number []) && same (getD (m .table) number []) bytes && Bool·beq (eqb (m .last) number) final
+
+-- 55, of a piece that is no exact repeat: its number is held; or is above the known last; or it is a last, below a held number or beside another last
+unfoldable pub clashes : Message → Piece → Bool
+clashes m p =
+    isHeld (getD (m .table) (numberOf p) [])
+    || (ltb 0 (m .last) && ltb (m .last) (numberOf p))
+    || (finalOf p && (someHeld (drop (suc (numberOf p)) (m .table)) || ltb 0 (m .last)))
+
+-- 53: the total would pass 65,535
+unfoldable pub tooMuch : Message → Piece → Bool
+tooMuch m p = ltb 65535 (total (m .table) + length (bytesOf p))
+
+-- A last number n is known and all numbers from 0 to n are held.
+unfoldable pub complete : Message → Bool
+complete m = ltb 0 (m .last) && allHeld (take (suc (m .last)) (m .table))
+
+unfoldable pub wholeOf : Message → Whole
+wholeOf m = record { typ = m .typ; expires = m .expires; bytes = joined (take (suc (m .last)) (m .table)) }
+
+-- 56: the assembly buffer is too short for what would come out
+unfoldable pub tooShort : ℕ → Message → Bool
+tooShort cap m = ltb cap (length (wholeOf m .bytes))
+
+unfoldable pub refused : ℕ → Store → Answer
+refused n s = record { number = n; out = none; store = s }
+
+-- The answer to a piece for the message m at the place k, in the order of the numbers' table. `cap` is the assembly buffer's length.
+unfoldable pub answer : ℕ → Store → Piece → ℕ → Message → Answer
+answer cap s p k m =
+    cond (badLength p) (refused 50 s)
+    (cond (badNumber p) (refused 51 s)
+    (cond (repeats m p) (refused 54 s)
+    (cond (clashes m p) (refused 55 s)
+    (cond (leb 16 k) (refused 52 s)
+    (cond (tooMuch m p) (refused 53 s)
+    (cond (complete (plus m p))
+    (cond (tooShort cap (plus m p)) (refused 56 s)
+    (record { number = 60; out = some (wholeOf (plus m p)); store = set s k none }))
+    (record { number = 0; out = none; store = set s k (some (plus m p)) })))))))
+
+-- A piece comes at the second `now`.
+unfoldable pub step : ℕ → Store → Piece → ℕ → Answer
+step cap s p now =
+    let k : ℕ = placeOf (idOf p) s in
+    answer cap s p k (messageOr (getD s k none) (idOf p) now)
+
+-- A sweep drops exactly the messages with `now` at least 30 above the second of the piece that opened them.
+unfoldable pub sweptOne : ℕ → Option Message → Option Message
+sweptOne now none = none
+sweptOne now (some m) = cond (leb (m .opened + 30) now) none (some m)
+
+unfoldable pub sweep : ℕ → Store → Store
+sweep now s = map (sweptOne now) s
+
+-- The numbers that a run of pieces is answered by, all at the second 0, with 65,535 bytes to assemble in.
+abbrev pub numbers : Store → List Piece → List ℕ
+numbers s [] = []
+numbers s (p ∷ ps) = step 65535 s p 0 .number ∷ numbers (step 65535 s p 0 .store) ps

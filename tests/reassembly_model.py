@@ -1,0 +1,69 @@
+"""An independent model of document 01's reassembly, written from its text and from nothing else."""
+
+class Message:
+    """An open message: the second it was opened in, its pieces by number, its last number and its head once known."""
+
+    def __init__(self, second):
+        self.second = second
+        self.pieces = {}
+        self.last = None
+        self.head = None
+
+    def complete(self):
+        return self.last is not None and all(n in self.pieces for n in range(self.last + 1))
+
+
+class Store:
+    """16 open messages at most. A piece has 1 to 1,500 bytes and a number from 0 to 127; a message has at most 65,535 bytes."""
+
+    def __init__(self):
+        self.open = {}
+
+    def first(self, ident, kind, expires, second, data, room):
+        return self._piece(ident, 0, False, (kind, expires), second, data, room)
+
+    def follow_on(self, ident, number, last, second, data, room):
+        if not 1 <= len(data) <= 1500:
+            return 50, None
+        if not 1 <= number <= 127:
+            return 51, None
+        return self._piece(ident, number, last, None, second, data, room)
+
+    def sweep(self, second):
+        self.open = {i: m for i, m in self.open.items() if not second >= m.second + 30}
+        return 0
+
+    def _piece(self, ident, number, last, head, second, data, room):
+        if not 1 <= len(data) <= 1500:
+            return 50, None
+        old = self.open.get(ident)
+        if old is not None:
+            if number in old.pieces:
+                flag = number == old.last
+                same = old.pieces[number] == data and flag == last and (head is None or head == old.head)
+                return (54 if same else 55), None
+            if old.last is not None and number > old.last:
+                return 55, None
+            if last and (old.last is not None or any(n > number for n in old.pieces)):
+                return 55, None
+        elif len(self.open) == 16:
+            return 52, None
+        message = old or Message(second)
+        if sum(map(len, message.pieces.values())) + len(data) > 65535:
+            return 53, None
+        message.pieces[number] = data
+        before = message.last, message.head
+        if last:
+            message.last = number
+        if head is not None:
+            message.head = head
+        if not message.complete():
+            self.open[ident] = message
+            return 0, None
+        whole = b"".join(message.pieces[n] for n in range(message.last + 1))
+        if len(whole) > room:
+            del message.pieces[number]
+            message.last, message.head = before
+            return 56, None
+        del self.open[ident]
+        return 60, (message.head[0], message.head[1], whole)
