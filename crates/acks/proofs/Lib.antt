@@ -16,3 +16,4 @@ pub mod Newest
 pub mod Cases
 pub mod Recording
 pub mod InPlace
+pub mod Handed

@@ -8,15 +8,14 @@ use lib.ListN.{length, take, drop, length-append}
 use borrow.Author.Tests.{lt-ltb, le-ltb, ne-eqb}
 use borrow.Rule.Slice.PartMut.{putMid}
 use Rattle.wire.specs.Parts.{part, splice}
-use Rattle.wire.specs.Numbers.{little, littleAt, littleBytes}
-use Rattle.wire.proofs.Parts.{length-part, part-all, part-left, part-right, part-within, part-add, part-after, splice-part, splice-then}
-use Rattle.wire.proofs.Numbers.{Bytes, little-again, little-back, length-little}
+use Rattle.wire.specs.Numbers.{Bytes, littleAt, littleBytes}
+use Rattle.wire.proofs.Parts.{part-all, part-left, part-right, part-within, part-add, part-after, splice-part, splice-then}
+use Rattle.wire.proofs.Numbers.{littleAt-again, little-back, length-little}
 use Rattle.wire.proofs.Lent.{lent-part}
 use Rattle.acks.specs.declared.tracker.Tracker.{Tracker}
 use Rattle.acks.specs.History.{answerTo}
 use Rattle.acks.specs.Tracking.{held, marksAfter, acceptOf, answerOf, registerOf}
 use Rattle.acks.specs.Recorded.{short, trackerAt, bytesOf, registerThere, recordAfter}
-use Rattle.acks.proofs.Lists.{bytes-part}
 
 add-zero-of : (k n : ℕ) → n ≡ k → n + 0 ≡ k
 add-zero-of k n e = omega arith
@@ -36,12 +35,9 @@ module _ (r : List ℕ) where
 
   -- bytes, read as a tracker and put back
   put-back : 259 ≤ length r → Bytes r → splice r 0 (bytesOf (trackerAt r)) ≡ r
-  unfolding bytesOf trackerAt littleAt
+  unfolding bytesOf trackerAt
   put-back long bytes =
-      let four : length (part r 0 4) ≡ 4 = length-part r 0 4 (omega arith) in
-      let again : littleBytes 4 (little (part r 0 4)) ≡ part r 0 4 =
-      ap (λ (k : ℕ). littleBytes k (little (part r 0 4))) (sym four) ∙ little-again (part r 0 4) (bytes-part r 0 4 bytes) in
-      ap (λ (l : List ℕ). splice r 0 (l ++ part r 4 255)) again
+      ap (λ (l : List ℕ). splice r 0 (l ++ part r 4 255)) (littleAt-again 4 r 0 (omega arith) bytes)
       ∙ ap (splice r 0) (sym (part-add r 0 4 255))
       ∙ splice-part r 0 259 long
 

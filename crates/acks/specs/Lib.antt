@@ -6,3 +6,4 @@ pub mod Runs
 pub mod Reporting
 pub mod Expanding
 pub mod Recorded
+pub mod AckBlocks

@@ -3,6 +3,8 @@ use crate::expanded;
 use crate::fields;
 use acks::report::AckInfo;
 use acks::tracker::Tracker;
+use blocks::Block;
+use blocks::Read;
 
 fn duplicate(text: &[u8], at: usize, t: Tracker, bytes: [u8; 259]) -> bool {
     let n = fields::number(text, at);
@@ -67,13 +69,51 @@ fn like_oracle(text: &[u8], at: usize, t: Tracker) -> bool {
     same_window(&theirs, n, &mine, m, a.through)
 }
 
+// How many numbers an Ack block at a room's start names, into a list; 0 where it is refused or none.
+fn named_in(room: &[u8], list: &mut [u32; 512]) -> usize {
+    let read = blocks::reading::read_block(room, 0);
+    let Read::Block {
+        block,
+        size: _,
+        next: _,
+    } = read
+    else {
+        return 0;
+    };
+    let Block::Ack {
+        through,
+        count,
+        pairs,
+    } = block
+    else {
+        return 0;
+    };
+    acks::ack_block::expand_ack(room, through, count, pairs, list).count
+}
+
+// Whether a report, written as an Ack block, read back and expanded, names what it names itself.
+fn comes_back(a: AckInfo) -> bool {
+    let mut room = [0u8; 262];
+    let mut mine = [0u32; 512];
+    let mut theirs = [0u32; 512];
+    let number = a.number;
+    acks::ack_block::write_ack(a, &mut room);
+    if number != 0 {
+        return named_in(&room, &mut theirs) == 0;
+    }
+    let m = expanded::named_of(a, &mut mine);
+    let n = named_in(&room, &mut theirs);
+    (n == m) & same_window(&theirs, n, &mine, m, a.through)
+}
+
 pub(crate) fn line(kind: u8, text: &[u8], at: usize, t: Tracker, bytes: [u8; 259]) -> bool {
     if kind == b'd' {
         return duplicate(text, at, t, bytes);
     }
     if kind == b'a' {
         let there = reports(acks::recorded::report_in(&bytes), text, at);
-        return there & reports(acks::report::report(t), text, at);
+        let a = acks::report::report(t);
+        return there & reports(a, text, at) & comes_back(a);
     }
     if kind == b'o' {
         return like_oracle(text, at, t);

@@ -1,6 +1,7 @@
 -- The demands, proved.
 pub mod Acks
 pub mod Demand2
+pub mod Demand2Sent
 pub mod Demand3Marks
 pub mod Demand3Rebuilt
 pub mod Demand3Places
