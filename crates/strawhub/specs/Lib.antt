@@ -1,2 +1,3 @@
 -- What the C calls answer, as numbers.
 pub mod Headers
+pub mod Trackers

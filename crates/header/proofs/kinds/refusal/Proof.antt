@@ -1,3 +1,7 @@
+use mathlib.Core.Path.{_≡_}
+use mathlib.Core.Bool.{true, not, _&&_}
+use lib.Dec.{eqb, ltb}
+use lib.ListN.{getD}
 use Rattle.header.specs.Reading.{refusalOf}
 use borrow.Author.Needs.{needs}
 use Rattle.header.proofs.kinds.refusal.Statement.{statement}
@@ -37,11 +41,15 @@ is-keyed-requires c κs = search needs
 
 returns-3 : tie.Need-returns-3
 unfolding refusalOf
-returns-3 c = rw (← c .before .before .before .before .before .before .is-listed .ensures, c .before .before .before .before .before .if1 .left, ← c .before .before .before .before .is-short .ensures, ← c .before .before .before .is-version .ensures, c .before .before .if2 .left, ← c .before .is-keyed .ensures, c .if3 .taken)
+returns-3 c =
+    let t : (c .before .is-keyed .result && ltb (c .before .before .before .before .before .before .before .before .before .args .n) 64) ≡ true = c .if3 .taken in
+    rw (← c .before .before .before .before .before .before .is-listed .ensures, c .before .before .before .before .before .if1 .left, ← c .before .before .before .before .is-short .ensures, ← c .before .before .before .is-version .ensures, c .before .before .if2 .left, ← c .before .is-keyed .ensures, t)
 
 returns-4 : tie.Need-returns-4
 unfolding refusalOf
-returns-4 c = rw (← c .before .before .before .before .before .before .before .is-listed .ensures, c .before .before .before .before .before .before .if1 .left, ← c .before .before .before .before .before .is-short .ensures, ← c .before .before .before .before .is-version .ensures, c .before .before .before .if2 .left, ← c .before .before .is-keyed .ensures, c .before .if3 .left, ← c .before .before .before .before .before .before .before .before .be-u32 .ensures, c .if4 .taken)
+returns-4 c =
+    let t : (eqb (getD (c .before .before .before .before .before .before .before .before .before .before .args .t1) 12 0) 2 && not (eqb (c .before .before .before .before .before .before .before .before .be-u32 .result) 0)) ≡ true = c .if4 .taken in
+    rw (← c .before .before .before .before .before .before .before .is-listed .ensures, c .before .before .before .before .before .before .if1 .left, ← c .before .before .before .before .before .is-short .ensures, ← c .before .before .before .before .is-version .ensures, c .before .before .before .if2 .left, ← c .before .before .is-keyed .ensures, c .before .if3 .left, ← c .before .before .before .before .before .before .before .before .be-u32 .ensures, t)
 
 returns-5 : tie.Need-returns-5
 unfolding refusalOf

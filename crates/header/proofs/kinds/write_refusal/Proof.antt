@@ -1,3 +1,6 @@
+use mathlib.Core.Path.{_≡_}
+use mathlib.Core.Bool.{true, _&&_, _||_}
+use lib.Dec.{eqb, ltb}
 use borrow.Author.Tests.{lt-ltb, le-ltb}
 use Rattle.header.specs.Writing.{writeNumber}
 use borrow.Author.Needs.{needs}
@@ -27,7 +30,10 @@ returns-3 c = rw (← c .before .before .before .before .before .before .is-list
 
 returns-4 : tie.Need-returns-4
 unfolding writeNumber
-returns-4 c = rw (← c .before .before .before .before .before .before .before .before .before .is-listed .ensures, c .before .before .before .before .before .before .before .before .if1 .left, ← c .before .before .before .before .before .before .before .is-short .ensures, ← c .before .before .before .before .before .before .is-version .ensures, c .before .before .before .before .before .if2 .left, c .before .before .before .if3 .left, c .if4 .taken)
+returns-4 c =
+    let f = c .before .before .before .before .before .before .before .before .before .before .args .f in
+    let t : (eqb (f .kind) 2 && (ltb 15 (f .fragment) || ltb 15 (f .count))) ≡ true = c .if4 .taken in
+    rw (← c .before .before .before .before .before .before .before .before .before .is-listed .ensures, c .before .before .before .before .before .before .before .before .if1 .left, ← c .before .before .before .before .before .before .before .is-short .ensures, ← c .before .before .before .before .before .before .is-version .ensures, c .before .before .before .before .before .if2 .left, c .before .before .before .if3 .left, t)
 
 need-of-requires : tie.Need-need-of-requires
 need-of-requires c κs = search needs
