@@ -1,5 +1,6 @@
 // The calls of the daemon, over the C calling convention: numbers and byte slices alone, each a few lines over a proved function.
 pub mod headers;
+pub mod stores;
 pub mod trackers;
 
 ghost use mathlib.Core.Path.{_≡_};
