@@ -44,19 +44,19 @@ demand2 calls = (
 )
 
 -- a history that meets the premises: 43, 40 and 42 in its middle, and the window moved past what came first
-abbrev pub calls : List ℕ
-calls = 4 ∷ 2 ∷ 4 ∷ 400 ∷ 200 ∷ 300 ∷ 3 ∷ []
+abbrev pub mixed : List ℕ
+mixed = 4 ∷ 2 ∷ 4 ∷ 400 ∷ 200 ∷ 300 ∷ 3 ∷ []
 
-pub calls-received : received calls ≡ 300 ∷ 200 ∷ 2 ∷ 4 ∷ 0 ∷ []
+pub mixed-received : received mixed ≡ 300 ∷ 200 ∷ 2 ∷ 4 ∷ 0 ∷ []
 unfolding received receivedAfter noted answerTo receive highestOf among
-calls-received = refl
+mixed-received = refl
 
-pub calls-newest : newest calls ≡ 300 ∷ 200 ∷ []
+pub mixed-newest : newest mixed ≡ 300 ∷ 200 ∷ []
 unfolding newest highestSeen received receivedAfter noted answerTo receive highestOf among window falling keep
-calls-newest = refl
+mixed-newest = refl
 
 -- its report, expanded into a list of 256 places
-pub example : ExpandsTo (reportAfter calls) (replicate 256 7) (300 ∷ 200 ∷ [])
+pub example : ExpandsTo (reportAfter mixed) (replicate 256 7) (300 ∷ 200 ∷ [])
 example =
-    let some : 0 < length (received calls) = rw calls-received (omega arith) in
-    rw (sym calls-newest) (demand2 calls .1 some .exact (replicate 256 7) (omega arith))
+    let some : 0 < length (received mixed) = rw mixed-received (omega arith) in
+    rw (sym mixed-newest) (demand2 mixed .1 some .exact (replicate 256 7) (omega arith))

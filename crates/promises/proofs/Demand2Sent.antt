@@ -22,7 +22,7 @@ use Rattle.acks.proofs.InPlace.{in-place-small}
 use Rattle.promises.specs.Acks.{reportAfter}
 use Rattle.promises.specs.Demand2.{Sent, Demand2Sent}
 use Rattle.promises.proofs.Acks.{tracked}
-use Rattle.promises.proofs.Demand2.{report-faithful, calls, calls-received}
+use Rattle.promises.proofs.Demand2.{report-faithful, mixed, mixed-received}
 
 -- a report of whole pairs, at most 127, is written to any room of 262 bytes
 module _ (r : AckInfo) (room : List ℕ) (zero : r .number ≡ 0) (even : length (pairBytes r) % 2 ≡ 0) (few : length (pairBytes r) ≤ 254)
@@ -76,11 +76,11 @@ demand2-sent calls room list packets some big long =
     }
 
 -- the history of the example of demand 2 meets these premises too
-calls-packets : Packets calls
-calls-packets =
+mixed-packets : Packets mixed
+mixed-packets =
     (omega arith, (omega arith, (omega arith, (omega arith, (omega arith, (omega arith, (omega arith, tt)))))))
 
-pub example-sent : Sent calls (replicate 262 0) (replicate 256 7) (reportAfter calls)
+pub example-sent : Sent mixed (replicate 262 0) (replicate 256 7) (reportAfter mixed)
 example-sent =
-    let some : 0 < length (received calls) = rw calls-received (omega arith) in
-    demand2-sent calls (replicate 262 0) (replicate 256 7) calls-packets some (omega arith) (omega arith)
+    let some : 0 < length (received mixed) = rw mixed-received (omega arith) in
+    demand2-sent mixed (replicate 262 0) (replicate 256 7) mixed-packets some (omega arith) (omega arith)

@@ -20,7 +20,10 @@ long c = search needs
 
 returns : tie.Need-returns
 unfolding ackWriting ackRoom
-returns c = (simp (ne-eqb _ _ (c .if1 .taken)), simp (ne-eqb _ _ (c .if1 .taken)))
+returns c =
+    let a = c .before .before .before .before .args in
+    let refused : a .report .number ≡ 0 → ⊥ = c .if1 .taken in
+    (simp (ne-eqb (a .report .number) 0 refused), simp (ne-eqb (a .report .number) 0 refused))
 
 block-of-requires : tie.Need-block-of-requires
 block-of-requires c κs = search needs
