@@ -1,0 +1,108 @@
+-- Laws of what a block delivers. Assumes nothing.
+use mathlib.Core.Path.{_≡_, refl, sym, ap, _∙_}
+use mathlib.Core.Bool.{Bool, true, false, _||_, false≢true}
+use mathlib.Core.List.{List, [], _∷_}
+use mathlib.Core.Logic.{inl, inr}
+use Prim.Native.Nat.{ℕ, _-_, _<_}
+use native.Mathlib.Omega.{arith}
+use lib.Dec.{eqb}
+use lib.ListN.{length, take, drop, drop-of-length-le, length-drop}
+use lib.Seq.{take-nil, take-all}
+use borrow.Author.Tests.{eq-eqb}
+use types.Run.{OneOf}
+use denote.Enum.Declared.{tagOf}
+use Rattle.wire.specs.Parts.{part}
+use Rattle.blocks.proofs.Block
+use Rattle.blocks.specs.declared.Block.{Block}
+use Rattle.blocks.specs.declared.Block.the-variants as Body
+use Rattle.blocks.specs.declared.Part.{Part}
+use Rattle.blocks.specs.declared.Read.{Read}
+use Rattle.blocks.specs.declared.Read.the-variants as Got
+use Rattle.reassembly.specs.declared.Reply.{Reply}
+use Rattle.reassembly.specs.Calls.{After, after, firstCall, followOnCall}
+use Rattle.messages.specs.declared.Received.{Received}
+use Rattle.messages.specs.Delivery.{Left, left, nothing, wholeAt, rebuiltBy, rebuilt, deliveredBy, delivered}
+
+-- a part that starts past the end is empty; one that ends past it is the rest
+pub past-end : (l : List ℕ) (o n : ℕ) → length l < o → [] ≡ part l o n
+unfolding part
+past-end l o n h = sym (ap (take n) (drop-of-length-le l {i = o} (omega arith)) ∙ take-nil n)
+
+pub to-end : (l : List ℕ) (o n : ℕ) → length l - o < n → take (length l - o) (drop o l) ≡ part l o n
+unfolding part
+to-end l o n h = take-all (length l - o) (drop o l) (omega (arith, length-drop o l)) ∙ sym (take-all n (drop o l) (omega (arith, length-drop o l)))
+
+module _ (s rec room out : List ℕ) (second : ℕ) where
+  pub whole-left : (b : Block) (k i x : ℕ) (p : Part) (r : Received) → b ≡ Body.I2np k i x p → r ≡ wholeAt k i x p → left r rec room out ≡ deliveredBy s rec room out second b
+  unfolding deliveredBy
+  whole-left b k i x p r q e = ap (λ (z : Received). left z rec room out) e ∙ sym (ap (deliveredBy s rec room out second) q)
+
+  pub first-left : (b : Block) (k i x : ℕ) (p : Part) (piece rec′ room′ out′ : List ℕ) (r : Reply) (d : Received) → b ≡ Body.FirstFragment k i x p → piece ≡ part s (p .start) (p .len)
+      → after r rec′ room′ out′ ≡ firstCall rec room out (record { id = i; number = 0; last = false; kind = k; expires = x }) second piece → d ≡ rebuiltBy r i
+      → left d rec′ room′ out′ ≡ deliveredBy s rec room out second b
+  unfolding deliveredBy rebuilt
+  first-left b k i x p piece rec′ room′ out′ r d q ep e ed =
+      ap (λ (z : Received). left z rec′ room′ out′) ed
+      ∙ ap (λ (y : After). rebuilt y i) (e ∙ ap (firstCall rec room out (record { id = i; number = 0; last = false; kind = k; expires = x }) second) ep)
+      ∙ sym (ap (deliveredBy s rec room out second) q)
+
+  pub follow-left : (b : Block) (n : ℕ) (l : Bool) (i : ℕ) (p : Part) (piece rec′ room′ out′ : List ℕ) (r : Reply) (d : Received) → b ≡ Body.FollowOnFragment n l i p → piece ≡ part s (p .start) (p .len)
+      → after r rec′ room′ out′ ≡ followOnCall rec room out (record { id = i; number = n; last = l; kind = 0; expires = 0 }) second piece → d ≡ rebuiltBy r i
+      → left d rec′ room′ out′ ≡ deliveredBy s rec room out second b
+  unfolding deliveredBy rebuilt
+  follow-left b n l i p piece rec′ room′ out′ r d q ep e ed =
+      ap (λ (z : Received). left z rec′ room′ out′) ed
+      ∙ ap (λ (y : After). rebuilt y i) (e ∙ ap (followOnCall rec room out (record { id = i; number = n; last = l; kind = 0; expires = 0 }) second) ep)
+      ∙ sym (ap (deliveredBy s rec room out second) q)
+
+-- a number that is one of some keys is found among them
+among : List ℕ → ℕ → Bool
+among [] x = false
+among (k ∷ ks) x = eqb x k || among ks x
+
+or-true : (a b : Bool) → b ≡ true → (a || b) ≡ true
+or-true true b e = refl
+or-true false b e = e
+
+one-among : (k : ℕ) (ks : List ℕ) (x : ℕ) → OneOf (k ∷ ks) x → among (k ∷ ks) x ≡ true
+unfolding among
+one-among k [] x e = rw (eq-eqb x k e) refl
+one-among k (j ∷ ks) x (inl e) = rw (eq-eqb x k e) refl
+one-among k (j ∷ ks) x (inr e) = or-true (eqb x k) (among (j ∷ ks) x) (one-among j ks x e)
+
+-- the variants that hold no message
+abbrev others : List ℕ
+others = 0 ∷ 1 ∷ 2 ∷ 6 ∷ 7 ∷ 8 ∷ 9 ∷ 10 ∷ 11 ∷ 12 ∷ 13 ∷ 14 ∷ 15 ∷ 16 ∷ 17 ∷ []
+
+pub other-left : (s rec room out : List ℕ) (second : ℕ) (r : Received) (b : Block) → OneOf others (tagOf Block.the-type b) → r ≡ nothing 0 0 → left r rec room out ≡ deliveredBy s rec room out second b
+unfolding deliveredBy among
+other-left s rec room out second r b h e = ap (λ (z : Received). left z rec room out) e ∙ go b h
+  where
+    go : (b : Block) → OneOf others (tagOf Block.the-type b) → left (nothing 0 0) rec room out ≡ deliveredBy s rec room out second b
+    go (Body.DateTime t) h = refl
+    go (Body.Options a b c d e f g i) h = refl
+    go (Body.RouterInfo f g p) h = refl
+    go (Body.I2np k i x p) h = absurd (false≢true (one-among 0 (1 ∷ 2 ∷ 6 ∷ 7 ∷ 8 ∷ 9 ∷ 10 ∷ 11 ∷ 12 ∷ 13 ∷ 14 ∷ 15 ∷ 16 ∷ 17 ∷ []) 3 h))
+    go (Body.FirstFragment k i x p) h = absurd (false≢true (one-among 0 (1 ∷ 2 ∷ 6 ∷ 7 ∷ 8 ∷ 9 ∷ 10 ∷ 11 ∷ 12 ∷ 13 ∷ 14 ∷ 15 ∷ 16 ∷ 17 ∷ []) 4 h))
+    go (Body.FollowOnFragment n l i p) h = absurd (false≢true (one-among 0 (1 ∷ 2 ∷ 6 ∷ 7 ∷ 8 ∷ 9 ∷ 10 ∷ 11 ∷ 12 ∷ 13 ∷ 14 ∷ 15 ∷ 16 ∷ 17 ∷ []) 5 h))
+    go (Body.Termination n r) h = refl
+    go (Body.Ack t n p) h = refl
+    go (Body.Address o p) h = refl
+    go Body.RelayTagRequest h = refl
+    go (Body.RelayTag t) h = refl
+    go (Body.NewToken x t) h = refl
+    go (Body.PathChallenge p) h = refl
+    go (Body.PathResponse p) h = refl
+    go (Body.FirstPacketNumber n) h = refl
+    go (Body.Congestion f) h = refl
+    go (Body.Padding p) h = refl
+    go (Body.Opaque k p) h = refl
+
+-- a block, or its refusal
+pub block-left : (s rec room out : List ℕ) (second : ℕ) (x : Left) (r : Read) (b : Block) (z n : ℕ) → r ≡ Got.Block b z n → x ≡ deliveredBy s rec room out second b → (y : Read) → r ≡ y → x ≡ delivered s rec room out second y
+unfolding delivered
+block-left s rec room out second x r b z n q e y w = e ∙ ap (delivered s rec room out second) (sym q ∙ w)
+
+pub refused-left : (s rec room out : List ℕ) (second : ℕ) (d : Received) (r : Read) (m p : ℕ) → r ≡ Got.Refused m p → d ≡ nothing m p → (y : Read) → r ≡ y → left d rec room out ≡ delivered s rec room out second y
+unfolding delivered
+refused-left s rec room out second d r m p q e y w = ap (λ (z : Received). left z rec room out) e ∙ ap (delivered s rec room out second) (sym q ∙ w)

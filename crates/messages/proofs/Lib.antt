@@ -1,0 +1,3 @@
+-- The laws.
+pub mod Deliveries
+pub mod OfStore

@@ -1,0 +1,74 @@
+use Prim.Native.Nat.{ℕ, _+_, _-_}
+use native.Mathlib.Omega.{arith}
+use lib.ListN.{take, drop}
+use Rattle.wire.specs.Parts.{part}
+use Rattle.messages.proofs.Deliveries.{past-end, to-end}
+use mathlib.Core.Path.{_≡_, ap}
+use borrow.Author.Needs.{needs}
+use Rattle.messages.proofs.shown.Statement.{statement}
+use Rattle.messages.proofs.shown.Tie as tie
+
+sub-result : tie.Need-sub-result
+sub-result c = search needs
+
+part-result-start : tie.Need-part-result-start
+part-result-start c = search needs
+
+part-result-end : tie.Need-part-result-end
+part-result-end c = search needs
+
+returns : tie.Need-returns
+returns c = past-end (c .before .before .args .b .now) (c .before .before .args .start) (c .before .before .args .len) (search needs)
+
+sub-if2 : tie.Need-sub-if2
+sub-if2 c = search needs
+
+sub-result-2 : tie.Need-sub-result-2
+sub-result-2 c = search needs
+
+part-result-start-2 : tie.Need-part-result-start-2
+part-result-start-2 c = search needs
+
+part-result-end-2 : tie.Need-part-result-end-2
+part-result-end-2 c = search needs
+
+returns-2 : tie.Need-returns-2
+returns-2 c = to-end (c .before .before .before .args .b .now) (c .before .before .before .args .start) (c .before .before .before .args .len) (search needs)
+
+add-end : tie.Need-add-end
+add-end c = search needs
+
+sub-result-3 : tie.Need-sub-result-3
+sub-result-3 c = search needs
+
+part-result-start-3 : tie.Need-part-result-start-3
+part-result-start-3 c = search needs
+
+part-result-end-3 : tie.Need-part-result-end-3
+part-result-end-3 c = search needs
+
+returns-3 : tie.Need-returns-3
+unfolding part
+returns-3 c =
+    let a = c .before .before .before .args in
+    let e : a .start + a .len - a .start ≡ a .len = omega arith in
+    ap (λ (z : ℕ). take z (drop (a .start) (a .b .now))) e
+
+pub shown-spec : {M : Type 1} → statement M
+shown-spec =
+    tie.close
+    (tie.spec
+    sub-result
+    part-result-start
+    part-result-end
+    returns
+    sub-if2
+    sub-result-2
+    part-result-start-2
+    part-result-end-2
+    returns-2
+    add-end
+    sub-result-3
+    part-result-start-3
+    part-result-end-3
+    returns-3)

@@ -1,0 +1,75 @@
+-- What a block of a payload delivers: an I2NP block its whole message, as a part of the payload; a fragment the message that it finishes, in the assembly buffer.
+use mathlib.Core.Bool.{false, cond}
+use mathlib.Core.List.{List, []}
+use Prim.Native.Nat.{ℕ}
+use lib.Dec.{eqb}
+use Rattle.wire.specs.Parts.{part}
+use Rattle.blocks.specs.declared.Part.{Part}
+use Rattle.blocks.specs.declared.Block.{Block}
+use Rattle.blocks.specs.declared.Block.the-variants as Body
+use Rattle.blocks.specs.declared.Read.{Read}
+use Rattle.blocks.specs.declared.Read.the-variants as Got
+use Rattle.reassembly.specs.declared.Reply.{Reply}
+use Rattle.reassembly.specs.Calls.{After, firstCall, followOnCall}
+use Rattle.messages.specs.declared.Received.{Received}
+
+-- What a call leaves: what was received, and the record, the room and the assembly buffer.
+pub record Left : Type 0 where
+  pub received : Received
+  pub rec : List ℕ
+  pub room : List ℕ
+  pub out : List ℕ
+
+abbrev pub left : Received → List ℕ → List ℕ → List ℕ → Left
+left r rec room out = record { received = r; rec = rec; room = room; out = out }
+
+-- a number, the place of a refused block, and no message
+unfoldable pub nothing : ℕ → ℕ → Received
+nothing n p = record { number = n; from = 0; kind = 0; id = 0; expires = 0; start = p; length = 0 }
+
+-- a whole message stands in the payload
+unfoldable pub wholeAt : ℕ → ℕ → ℕ → Part → Received
+wholeAt kind id expires p = record { number = 0; from = 1; kind = kind; id = id; expires = expires; start = p .start; length = p .len }
+
+-- a finished message stands at the start of the assembly buffer
+unfoldable pub rebuiltBy : Reply → ℕ → Received
+rebuiltBy r id =
+    cond (eqb (r .number) 60)
+    (record { number = 60; from = 2; kind = r .kind; id = id; expires = r .expires; start = 0; length = r .length })
+    (nothing (r .number) 0)
+
+-- what the store's call for a piece left
+unfoldable pub rebuilt : After → ℕ → Left
+rebuilt x id = left (rebuiltBy (x .reply) id) (x .rec) (x .room) (x .out)
+
+-- a block that was read
+unfoldable pub deliveredBy : List ℕ → List ℕ → List ℕ → List ℕ → ℕ → Block → Left
+deliveredBy s rec room out second (Body.I2np k i x p) = left (wholeAt k i x p) rec room out
+deliveredBy s rec room out second (Body.FirstFragment k i x p) =
+    rebuilt (firstCall rec room out (record { id = i; number = 0; last = false; kind = k; expires = x }) second (part s (p .start) (p .len))) i
+deliveredBy s rec room out second (Body.FollowOnFragment n l i p) =
+    rebuilt (followOnCall rec room out (record { id = i; number = n; last = l; kind = 0; expires = 0 }) second (part s (p .start) (p .len))) i
+deliveredBy s rec room out second (Body.DateTime t) = left (nothing 0 0) rec room out
+deliveredBy s rec room out second (Body.Options a b c d e f g h) = left (nothing 0 0) rec room out
+deliveredBy s rec room out second (Body.RouterInfo f g p) = left (nothing 0 0) rec room out
+deliveredBy s rec room out second (Body.Termination n r) = left (nothing 0 0) rec room out
+deliveredBy s rec room out second (Body.Ack t n p) = left (nothing 0 0) rec room out
+deliveredBy s rec room out second (Body.Address o p) = left (nothing 0 0) rec room out
+deliveredBy s rec room out second Body.RelayTagRequest = left (nothing 0 0) rec room out
+deliveredBy s rec room out second (Body.RelayTag t) = left (nothing 0 0) rec room out
+deliveredBy s rec room out second (Body.NewToken x t) = left (nothing 0 0) rec room out
+deliveredBy s rec room out second (Body.PathChallenge p) = left (nothing 0 0) rec room out
+deliveredBy s rec room out second (Body.PathResponse p) = left (nothing 0 0) rec room out
+deliveredBy s rec room out second (Body.FirstPacketNumber n) = left (nothing 0 0) rec room out
+deliveredBy s rec room out second (Body.Congestion f) = left (nothing 0 0) rec room out
+deliveredBy s rec room out second (Body.Padding p) = left (nothing 0 0) rec room out
+deliveredBy s rec room out second (Body.Opaque k p) = left (nothing 0 0) rec room out
+
+-- a block, or its refusal
+unfoldable pub delivered : List ℕ → List ℕ → List ℕ → List ℕ → ℕ → Read → Left
+delivered s rec room out second (Got.Block b size next) = deliveredBy s rec room out second b
+delivered s rec room out second (Got.Refused number place) = left (nothing number place) rec room out
+
+-- the bytes of the message that was received; none where none was
+unfoldable pub messageIn : List ℕ → List ℕ → Received → List ℕ
+messageIn s out r = cond (eqb (r .from) 1) (part s (r .start) (r .length)) (cond (eqb (r .from) 2) (part out (r .start) (r .length)) [])

@@ -1,0 +1,3 @@
+-- What the contracts of `messages` cite.
+pub mod Delivery
+pub mod Shown

@@ -1,0 +1,157 @@
+// What a block of a payload delivers: a message, whole as a part of the payload, or rebuilt as a part of the assembly buffer.
+use blocks::Block;
+use blocks::Part;
+use blocks::Read;
+use reassembly::Reply;
+ghost use mathlib.Core.Path.{_≡_};
+ghost use Rattle.wire.specs.Parts.{part};
+ghost use Rattle.blocks.specs.Reading.{readAt};
+ghost use Rattle.messages.specs.Delivery.{left, nothing, wholeAt, rebuiltBy, deliveredBy, delivered, messageIn};
+
+// A call's answer: 01's number, and where a message that was received stands: 0 nowhere, 1 in the payload, 2 in the assembly buffer.
+#[repr(C)]
+pub struct Received {
+    pub number: u32,
+    pub from: u8,
+    pub kind: u8,
+    pub id: u32,
+    pub expires: u32,
+    pub start: usize,
+    pub length: usize,
+}
+
+fn nothing(number: u32, place: usize) -> Received
+    ensures { λ r. ⌜ r ≡ nothing number place ⌝ }
+{
+    Received {
+        number,
+        from: 0,
+        kind: 0,
+        id: 0,
+        expires: 0,
+        start: place,
+        length: 0,
+    }
+}
+
+// A whole message, which stands in the payload.
+fn whole_at(kind: u8, id: u32, expires: u32, bytes: Part) -> Received
+    ensures { λ r. ⌜ r ≡ wholeAt kind id expires bytes ⌝ }
+{
+    Received {
+        number: 0,
+        from: 1,
+        kind,
+        id,
+        expires,
+        start: bytes.start,
+        length: bytes.len,
+    }
+}
+
+// What the store's reply to a piece delivers.
+fn rebuilt_by(r: Reply, id: u32) -> Received
+    ensures { λ x. ⌜ x ≡ rebuiltBy r id ⌝ }
+{
+    if r.number == 60 {
+        return Received {
+            number: 60,
+            from: 2,
+            kind: r.kind,
+            id,
+            expires: r.expires,
+            start: 0,
+            length: r.length,
+        };
+    }
+    nothing(r.number as u32, 0)
+}
+
+// The part of a slice from a place on, as far as it is there.
+fn shown(b: &[u8], start: usize, len: usize) -> &[u8]
+    ensures { λ r. ⌜ now r ≡ part (now (b .entry)) start len ⌝ }
+{
+    if b.len() < start {
+        return &b[0..0];
+    }
+    if b.len() - start < len {
+        return &b[start..];
+    }
+    let end = start + len;
+    &b[start..end]
+}
+
+fn deliver(
+    payload: &[u8],
+    block: Block,
+    rec: &mut [u8],
+    room: &mut [u8],
+    out: &mut [u8],
+    second: u64,
+) -> Received
+    ensures { λ r. ⌜ left r (now (rec .exit)) (now (room .exit)) (now (out .exit)) ≡ deliveredBy (now (payload .entry)) (now (rec .entry)) (now (room .entry)) (now (out .entry)) second block ⌝ }
+{
+    match block {
+        Block::I2np {
+            kind,
+            id,
+            expiration,
+            bytes,
+        } => whole_at(kind, id, expiration, bytes),
+        Block::FirstFragment {
+            kind,
+            id,
+            expiration,
+            bytes,
+        } => {
+            let piece = shown(payload, bytes.start, bytes.len);
+            let r = reassembly::first_fragment(rec, room, out, id, kind, expiration, second, piece);
+            rebuilt_by(r, id)
+        }
+        Block::FollowOnFragment {
+            number,
+            last,
+            id,
+            bytes,
+        } => {
+            let piece = shown(payload, bytes.start, bytes.len);
+            let r = reassembly::follow_on_fragment(rec, room, out, id, number, last, second, piece);
+            rebuilt_by(r, id)
+        }
+        _ => nothing(0, 0),
+    }
+}
+
+// What the block at a place of a payload delivers.
+pub fn receive(
+    payload: &[u8],
+    at: usize,
+    rec: &mut [u8],
+    room: &mut [u8],
+    out: &mut [u8],
+    second: u64,
+) -> Received
+    ensures { λ r. ⌜ left r (now (rec .exit)) (now (room .exit)) (now (out .exit)) ≡ delivered (now (payload .entry)) (now (rec .entry)) (now (room .entry)) (now (out .entry)) second (readAt (now (payload .entry)) at) ⌝ }
+{
+    match blocks::reading::read_block(payload, at) {
+        Read::Block {
+            block,
+            size: _,
+            next: _,
+        } => deliver(payload, block, rec, room, out, second),
+        Read::Refused { number, place } => nothing(number, place),
+    }
+}
+
+// The message that was received, as the part of the payload or of the assembly buffer that it is.
+pub fn message<'a>(payload: &'a [u8], out: &'a [u8], r: Received) -> &'a [u8]
+    ensures { λ m. ⌜ now m ≡ messageIn (now (payload .entry)) (now (out .entry)) r ⌝ }
+{
+    if r.from == 1 {
+        return shown(payload, r.start, r.length);
+    }
+    if r.from == 2 {
+        return shown(out, r.start, r.length);
+    }
+    &out[0..0]
+}
