@@ -32,5 +32,6 @@ abbrev pub Holds : List Case → Type 0
 Holds [] = Unit
 Holds (c ∷ cs) = (readAt (c .payload) 0 ≡ c .first) × (blocksOf (c .payload) ≡ c .whole) × Holds cs
 
+-- all of them hold
 abbrev pub CasesHold : Type 0
 CasesHold = Holds cases

@@ -68,7 +68,7 @@ address size left =
     (cond (eqb size 18) (fitsIn 18 left)
     (Take.Refused 8)))
 
--- what the body at a place takes, where `left` bytes are left, by type; a type with no row takes size bytes
+-- what the body at a place takes, by type; a type with no row, named or not, takes size bytes
 unfoldable pub takenAt : List ℕ → ℕ → ℕ → ℕ → Taken
 takenAt s body kind size =
     cond (eqb kind 0) (fitsIn 4 (length s - body))
@@ -106,9 +106,11 @@ fieldsOf kind =
     (cond (eqb kind 21) 1
     0)))))))))))))
 
+-- the type byte of the block at a place
 abbrev pub kindAt : List ℕ → ℕ → ℕ
 kindAt s at = getD s at 0
 
+-- its size field
 abbrev pub sizeAt : List ℕ → ℕ → ℕ
 sizeAt s at = bigAt 2 s (at + 1)
 

@@ -16,9 +16,11 @@ pub data Listing : Type 0 where
   ok : List Entry → Listing
   no : ℕ → ℕ → Listing
 
+-- the record of a block: place, type, size
 abbrev pub entry : ℕ → ℕ → ℕ → Entry
 entry at k z = record { place = at; kind = k; size = z }
 
+-- a record before those of a listing; a refusal stays one
 abbrev pub cons : Entry → Listing → Listing
 cons e (ok es) = ok (e ∷ es)
 cons e (no m p) = no m p
@@ -46,13 +48,15 @@ limited c (no m p) = no m p
 unfoldable pub listing : ℕ → List ℕ → Listing
 listing c s = limited c (blocksOf s)
 
--- what is answered: of n blocks 0 and n, of a refusal its number and place
+-- the answer where n blocks are listed
 abbrev pub counts : ℕ → Answer
 counts n = record { number = 0; place = 0; count = n }
 
+-- the answer where a block or the list is refused
 abbrev pub refusal : ℕ → ℕ → Answer
 refusal m p = record { number = m; place = p; count = 0 }
 
+-- what is answered
 abbrev pub answerOf : Listing → Answer
 answerOf (ok es) = counts (length es)
 answerOf (no m p) = refusal m p
@@ -62,15 +66,17 @@ abbrev pub filled : Listing → List Entry → List Entry
 filled (ok es) l = es ++ drop (length es) l
 filled (no m p) l = l
 
+-- the refusal of a block that was not read
 abbrev pub refusalOf : Extent → Answer
 refusalOf (End.Refused m p) = refusal m p
 refusalOf (End.Ends k z next) = counts 0
 
--- the record of the block at a place, and the place after it
+-- a record and the place after its block; where none was read, the place itself
 abbrev pub stepOf : ℕ → Extent → Step
 stepOf at (End.Ends k z next) = record { entry = entry at k z; next = next }
 stepOf at (End.Refused m p) = record { entry = entry p 0 0; next = p }
 
+-- the record of the block at a place, and the place after it
 abbrev pub stepAt : List ℕ → ℕ → Step
 stepAt s at = stepOf at (extentAt s at)
 

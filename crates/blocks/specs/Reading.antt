@@ -32,6 +32,7 @@ routerInfoAt s o n = Body.RouterInfo (getD s o 0) (getD s (o + 1) 0) (bytesAt (o
 abbrev pub i2npAt : List ℕ → ℕ → ℕ → Block
 i2npAt s o n = Body.I2np (getD s o 0) (bigAt 4 s (o + 1)) (bigAt 4 s (o + 5)) (bytesAt (o + 9) (n - 9))
 
+-- as I2NP
 abbrev pub firstFragmentAt : List ℕ → ℕ → ℕ → Block
 firstFragmentAt s o n = Body.FirstFragment (getD s o 0) (bigAt 4 s (o + 1)) (bigAt 4 s (o + 5)) (bytesAt (o + 9) (n - 9))
 

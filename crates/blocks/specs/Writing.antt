@@ -146,5 +146,6 @@ abbrev pub stored : Written → Block → List ℕ → List ℕ → List ℕ
 stored (Wrote.Length n) b body room = splice room 0 (written b body)
 stored (Wrote.Refused m) b body room = room
 
+-- what a room holds after a block was written to it, or refused
 unfoldable pub roomAfter : Block → List ℕ → List ℕ → List ℕ
 roomAfter b body room = stored (writing b body (length room)) b body room
