@@ -21,9 +21,9 @@ same-length c = search needs
 
 returns : tie.Need-returns
 returns c = (
-      c .outcome-of .ensures ∙ ap written (c .before .before .before .write-ack .ensures .0 ∙ ap (λ (a : AckInfo). ackWriting a (length (c .before .before .before .before .before .before .before .before .args .room .now))) (c .before .before .before .before .before .report-in .ensures)),
-      c .before .before .before .write-ack .ensures .1 ∙ ap (λ (a : AckInfo). ackRoom a (c .before .before .before .before .before .before .before .before .args .room .now)) (c .before .before .before .before .before .report-in .ensures),
-    )
+  c .outcome-of .ensures ∙ ap written (c .before .before .before .write-ack .ensures .0 ∙ ap (λ (a : AckInfo). ackWriting a (length (c .before .before .before .before .before .before .before .before .args .room .now))) (c .before .before .before .before .before .report-in .ensures)),
+  c .before .before .before .write-ack .ensures .1 ∙ ap (λ (a : AckInfo). ackRoom a (c .before .before .before .before .before .before .before .before .args .room .now)) (c .before .before .before .before .before .report-in .ensures),
+)
 
 pub strawhub-tracker-ack-block-spec : {M : Type 1} → statement M
 strawhub-tracker-ack-block-spec =

@@ -12,7 +12,7 @@ put-report-requires : tie.Need-put-report-requires
 put-report-requires c κs = search needs
 
 returns : tie.Need-returns
-returns c = 
+returns c =
     let e = c .before .before .before .report-in .ensures in (
       c .put-report .ensures .0 ∙ ap (λ (a : AckInfo). a .number) e,
       c .put-report .ensures .1 ∙ ap (λ (a : AckInfo). reportNumbers a (c .before .before .before .before .before .args .out .now)) e,
