@@ -1,5 +1,6 @@
 -- The demands, proved.
 pub mod Acks
+pub mod Twelve
 pub mod Demand2
 pub mod Demand2Sent
 pub mod Demand3Marks
