@@ -1,0 +1,76 @@
+/* A plain C walk over a payload's blocks that keeps the promise of list_blocks: it judges first, then fills. */
+#include <stddef.h>
+#include <stdint.h>
+
+struct entry { size_t place; uint8_t kind; uint16_t size; };
+struct answer { uint32_t number; size_t place; size_t count; };
+
+static int listed(uint8_t t)
+{
+    return (t >= 1 && t <= 3) || t == 10 || t == 11 || (t >= 18 && t <= 26);
+}
+
+/* 0 and where the block at a place ends, or the number of the refusal. */
+static inline uint32_t extent(const uint8_t *p, size_t n, size_t at, struct entry *e, size_t *next)
+{
+    if (n < 3 || n - 3 < at) return 1;
+    size_t body = at + 3, left = n - body, size = p[at + 1] * 256u + p[at + 2], need = size;
+    e->place = at;
+    e->kind = p[at];
+    e->size = (uint16_t)size;
+    switch (p[at]) {
+    case 0: case 16: case 20: need = 4; break;
+    case 15: need = 0; break;
+    case 17: need = 12; break;
+    case 21: need = 1; break;
+    case 1: need = size > 12 ? size : 12; break;
+    case 6: need = size > 9 ? size : 9; break;
+    case 2: if (size <= 2) return 2; break;
+    case 3:
+        if (size < 9) return 9;
+        if (left < 9) return 1;
+        if (!listed(p[body])) return 3;
+        break;
+    case 4:
+        if (left < 9) return 1;
+        if (!listed(p[body])) return 3;
+        if (size <= 9) return 4;
+        if (left < size) return 5;
+        break;
+    case 5:
+        if (left < 5) return 1;
+        if (size <= 5) return 6;
+        if (left < size) return 7;
+        break;
+    case 12: need = 5 + (size > 5 && (size - 5) % 2 == 0 ? size - 5 : 0); break;
+    case 13:
+        if (left < 2) return 1;
+        if (size != 6 && size != 18) return 8;
+        break;
+    default: break;
+    }
+    if (left < need) return 1;
+    *next = body + need;
+    return 0;
+}
+
+void plain_walk(struct answer *a, const uint8_t *p, size_t n, struct entry *list, size_t room)
+{
+    size_t at = 0, count = 0, over = 0, next = 0;
+    struct entry e;
+    *a = (struct answer){0, 0, 0};
+    do {
+        uint32_t number = extent(p, n, at, &e, &next);
+        if (number) { a->number = number; a->place = at; return; }
+        if (count == room) over = at;
+        count++;
+        at = next;
+    } while (at < n);
+    if (count > room) { a->number = 10; a->place = over; return; }
+    at = 0;
+    for (size_t i = 0; i < count; i++) {
+        extent(p, n, at, &list[i], &next);
+        at = next;
+    }
+    a->count = count;
+}
