@@ -1,3 +1,5 @@
+use Prim.Native.Nat.{_<_}
+use lib.ListN.{length}
 use mathlib.Core.Path.{_≡_, refl, sym, ap, _∙_}
 use borrow.Author.Tests.{eq-eqb, ne-eqb, lt-ltb, le-ltb}
 use Rattle.acks.specs.Recorded.{short}
@@ -8,7 +10,9 @@ use Rattle.strawhub.proofs.trackers.strawhub_tracker_new.Tie as tie
 
 returns : tie.Need-returns
 unfolding newAnswer newRecord short
-returns c = rw (lt-ltb _ _ (c .if1 .taken)) (refl, refl)
+returns c =
+    let h : length (c .before .before .args .tracker .now) < 259 = c .if1 .taken in
+    rw (lt-ltb (length (c .before .before .args .tracker .now)) 259 h) (refl, refl)
 
 slice-aggregate-copy-to : tie.Need-slice-aggregate-copy-to
 slice-aggregate-copy-to c = search needs
