@@ -1,0 +1,184 @@
+/* Strawhub: SSU2 headers, blocks, acknowledgements and reassembly, proved. Link libstrawhub.a.
+ *
+ * Every call takes any bytes and any lengths, ends, and allocates nothing. A slice is a pointer and a
+ * count; with a count of 0 the pointer may be anything. Slices that a call may write must not overlap
+ * another slice of that call. State is bytes that the caller keeps and hands in as the last call left
+ * them; all zero is empty.
+ *
+ * 0 is success. Any other number is a refusal (60 is not: it says that a message is finished), and a
+ * refusal changes no byte that was lent. STRAWHUB_* below name them.
+ */
+#ifndef STRAWHUB_H
+#define STRAWHUB_H
+
+#include <stddef.h>
+#include <stdint.h>
+
+#ifdef __cplusplus
+extern "C" {
+#endif
+
+/* Bytes that a tracker takes, a store's record, its room, and a finished message at most. */
+#define STRAWHUB_TRACKER 259
+#define STRAWHUB_RECORD 8576
+#define STRAWHUB_ROOM 1048560
+#define STRAWHUB_MESSAGE 65535
+
+enum strawhub_number {
+	STRAWHUB_DONE = 0,
+	STRAWHUB_ENDS_INSIDE_BLOCK = 1,      /* bytes end inside or before a block */
+	STRAWHUB_ROUTER_INFO_SIZE = 2,       /* RouterInfo size 2 or less */
+	STRAWHUB_I2NP_TYPE = 3,              /* I2NP type not listed */
+	STRAWHUB_FIRST_FRAGMENT_SIZE = 4,    /* first fragment size 9 or less */
+	STRAWHUB_FIRST_FRAGMENT_BYTES = 5,   /* first fragment's bytes missing */
+	STRAWHUB_FOLLOW_ON_SIZE = 6,         /* follow-on size 5 or less */
+	STRAWHUB_FOLLOW_ON_BYTES = 7,        /* follow-on's bytes missing */
+	STRAWHUB_ADDRESS_SIZE = 8,           /* address size not 6 or 18 */
+	STRAWHUB_I2NP_SIZE = 9,              /* I2NP size below 9 */
+	STRAWHUB_LIST_FULL = 10,             /* all blocks good, but more than the list holds */
+	STRAWHUB_PACKET_SHORT = 20,          /* packet too short to unmask, or to write */
+	STRAWHUB_TYPE = 21,                  /* packet type unknown */
+	STRAWHUB_VERSION = 22,               /* version not 2, 3 or 4 */
+	STRAWHUB_KEY_MISSING = 23,           /* types 0 and 1 under 64 bytes */
+	STRAWHUB_CONFIRMED_NUMBER = 24,      /* SessionConfirmed number not 0 */
+	STRAWHUB_NIBBLE = 25,                /* written nibble above 15 */
+	STRAWHUB_ROOM_SHORT = 30,            /* written block longer than the room */
+	STRAWHUB_BODY_LONG = 31,             /* body above 65,535 */
+	STRAWHUB_BLOCK_FAULTY = 32,          /* a block that cannot be written; a field wider than its place */
+	STRAWHUB_NUMBER_HIGH = 40,           /* number above highest+255 */
+	STRAWHUB_NOTHING_SEEN = 41,          /* report before any number */
+	STRAWHUB_NUMBER_LOW = 42,            /* below the window */
+	STRAWHUB_NUMBER_AGAIN = 43,          /* already received */
+	STRAWHUB_BELOW_ZERO = 44,            /* an expansion goes below 0 */
+	STRAWHUB_EXPANSION_LONG = 46,        /* an expansion has more numbers than its list holds */
+	STRAWHUB_PIECE_LENGTH = 50,          /* piece length 0 or above 1,500 */
+	STRAWHUB_PIECE_NUMBER = 51,          /* follow-on number 0 or above 127 */
+	STRAWHUB_STORE_FULL = 52,            /* message not open and 16 are */
+	STRAWHUB_MESSAGE_LONG = 53,          /* total would pass 65,535 */
+	STRAWHUB_PIECE_AGAIN = 54,           /* exact repeat of a held piece */
+	STRAWHUB_PIECE_CONFLICT = 55,        /* same number, other content; above the last; a last that cannot be */
+	STRAWHUB_BUFFER_SHORT = 56,          /* would complete, assembly buffer too short */
+	STRAWHUB_LENT_SHORT = 59,            /* lent room or record short */
+	STRAWHUB_FINISHED = 60               /* a message is finished */
+};
+
+/* 0 and a length, a count or a place; or a refusal and, for blocks that are read, its place. */
+struct strawhub_outcome {
+	uint64_t number;
+	uint64_t value;
+};
+
+/* A block of a listing: the place of its type byte, its type, its size field as it stands. */
+struct strawhub_entry {
+	size_t place;
+	uint8_t kind;
+	uint16_t size;
+};
+
+/* 0 and how many numbers an expansion wrote; or 44 or 46. */
+struct strawhub_expanded {
+	uint32_t number;
+	size_t count;
+};
+
+/* What came of a piece: 0 kept; 60 finished, with the message's I2NP type, its expiration and its
+ * length in the assembly buffer; or a refusal. */
+struct strawhub_reply {
+	uint8_t number;
+	uint8_t kind;
+	uint32_t expires;
+	size_t length;
+};
+
+/* out becomes 64 bytes of the ChaCha20 keystream of RFC 8439. */
+void strawhub_keystream(const uint8_t key[32], uint32_t counter, const uint8_t nonce[12], uint8_t out[64]);
+
+/* Unmasks a packet's header in place and reads it; bytes past the header stay. Fields go to out, what a
+ * type does not have as 0: type, version, network id, fragment, count, immediate-ack flag, packet
+ * number, destination id, source id, token, place of the 32-byte key in the packet. 0, or 20 to 24,
+ * and then packet and out are as they came. */
+uint32_t strawhub_header_read(uint8_t *packet, size_t packet_len, const uint8_t key1[32], const uint8_t key2[32],
+                              uint64_t out[11]);
+
+/* Writes and masks a header at the start of a packet whose other bytes, the key of types 0 and 1
+ * among them, stand there already; the masks' nonces are its last 24 bytes. Fields that a type does
+ * not have are not looked at. Any immediate but 0 sets the flag. 0, or 21, 22, 24, 25, 20, and then
+ * the packet is as it came. */
+uint32_t strawhub_header_write(uint8_t *packet, size_t packet_len, const uint8_t key1[32], const uint8_t key2[32],
+                               uint8_t kind, uint64_t destination, uint32_t number, uint8_t version, uint8_t network,
+                               uint64_t source, uint64_t token, uint8_t fragment, uint8_t count, uint8_t immediate);
+
+/* Reads the block at a place: 0 and the place after it, out written; or 1 to 9 and the place of its
+ * type byte, out as it was. out: type, size field, place and length of the bytes after the fields (0, 0
+ * where a type has none), then the fields in document 01's order, 0 beyond them:
+ *   0 DateTime time; 1 Options t_min t_max r_min r_max t_dmy r_dmy t_delay r_delay;
+ *   2 RouterInfo flag frag; 3 I2NP and 4 FirstFragment type id expiration;
+ *   5 FollowOnFragment number last id; 6 Termination count reason; 12 Ack through count;
+ *   13 Address port; 16 RelayTag tag; 17 NewToken expires token; 20 FirstPacketNumber number;
+ *   21 Congestion flag; no fields in 15, 18, 19, 254 and every other type. */
+struct strawhub_outcome strawhub_block_read(const uint8_t *payload, size_t payload_len, size_t at, uint64_t out[12]);
+
+/* Writes a block to the start of a room, fields as strawhub_block_read gives them, bytes as the bytes
+ * after the fields (not looked at where a type has none): 0 and its length, the rest of the room stays;
+ * or 32, 31, 30 in that order. A field that is too wide for its place in the block is a 32. */
+struct strawhub_outcome strawhub_block_write(uint8_t *room, size_t room_len, uint8_t kind, const uint64_t fields[8],
+                                             const uint8_t *bytes, size_t bytes_len);
+
+/* Lists a payload's blocks: 0 and their count, an entry for each in list, the rest of the list stays;
+ * or 1 to 10 and the place of the block that was refused, of the first without an entry for 10. */
+struct strawhub_outcome strawhub_block_list(const uint8_t *payload, size_t payload_len, struct strawhub_entry *list,
+                                            size_t list_len);
+
+/* A tracker that has seen nothing, in the first 259 bytes. 0, or 59 where there are fewer. */
+uint32_t strawhub_tracker_new(uint8_t *tracker, size_t tracker_len);
+
+/* A packet number came: 0, or 40, 42, 43, 59. */
+uint32_t strawhub_tracker_register(uint8_t *tracker, size_t tracker_len, uint32_t number);
+
+/* Whether a number is in the window and was received: 1 yes, 0 no, or 59. */
+uint32_t strawhub_tracker_duplicate(const uint8_t *tracker, size_t tracker_len, uint32_t number);
+
+/* The acknowledgement: through, count and the count of pair bytes in out, the pairs as an Ack block has
+ * them in pairs, 0 beyond them. 0, or 41, 59. Asking changes nothing. */
+uint32_t strawhub_tracker_report(const uint8_t *tracker, size_t tracker_len, uint64_t out[3], uint8_t pairs[254]);
+
+/* The acknowledgement as an Ack block at the start of a room: 0 and its length, the rest of the room
+ * stays; or 41, 59, 30. */
+struct strawhub_outcome strawhub_tracker_ack_block(const uint8_t *tracker, size_t tracker_len, uint8_t *room,
+                                                   size_t room_len);
+
+/* The numbers that an acknowledgement names, falling, to the start of a list whose rest stays: 0 and
+ * their count; or 44, 46. */
+struct strawhub_expanded strawhub_ack_expand(uint32_t through, uint8_t count, const uint8_t *pairs, size_t pairs_len,
+                                             uint32_t *list, size_t list_len);
+
+/* An empty store, in the first 8,576 bytes. 0, or 59 where there are fewer. */
+uint8_t strawhub_store_new(uint8_t *record, size_t record_len);
+
+/* A first piece came, at a second. 0 kept; 60 with the whole message at the start of out; or 50, 52 to
+ * 56, 59. record holds at least 8,576 bytes, room 1,048,560; out is the assembly buffer. */
+struct strawhub_reply strawhub_store_first(uint8_t *record, size_t record_len, uint8_t *room, size_t room_len,
+                                           uint8_t *out, size_t out_len, uint32_t id, uint8_t kind, uint32_t expires,
+                                           uint64_t second, const uint8_t *bytes, size_t bytes_len);
+
+/* A follow-on piece came, in the same way; 51 too. Any last but 0 marks the last piece. */
+struct strawhub_reply strawhub_store_follow_on(uint8_t *record, size_t record_len, uint8_t *room, size_t room_len,
+                                               uint8_t *out, size_t out_len, uint32_t id, uint8_t number, uint8_t last,
+                                               uint64_t second, const uint8_t *bytes, size_t bytes_len);
+
+/* Drops exactly the messages whose opening piece came 30 seconds before this one or earlier. 0. */
+uint8_t strawhub_store_sweep(uint8_t *record, size_t record_len, uint64_t second);
+
+/* What the block at a place delivers. told: where the message stands (0 none, 1 in the payload, 2 in
+ * the assembly buffer), its I2NP type, id, expiration, place and length there. 0: a whole message, or
+ * none (a piece was kept, or a block of another type); 60: a rebuilt one. Or 1 to 9 and the block's
+ * place, or the store's refusal and 0, and then told too is as it was. */
+struct strawhub_outcome strawhub_block_deliver(const uint8_t *payload, size_t payload_len, size_t at, uint8_t *record,
+                                               size_t record_len, uint8_t *room, size_t room_len, uint8_t *out,
+                                               size_t out_len, uint64_t second, uint64_t told[6]);
+
+#ifdef __cplusplus
+}
+#endif
+
+#endif
