@@ -1,0 +1,248 @@
+//! The pieces of I2NP messages, put together.
+
+use crate::{ffi, Refusal, RefusedAt};
+
+/// The bytes of a store's record.
+pub const RECORD: usize = 8_576;
+
+/// The bytes of a store's room.
+pub const ROOM: usize = 1_048_560;
+
+/// The bytes of a message at most, and so of an assembly buffer that is always enough.
+pub const MESSAGE: usize = 65_535;
+
+/// An I2NP message, its bytes a part of what it came in.
+#[derive(Debug, Clone, Copy, PartialEq, Eq, Hash)]
+pub struct Message<'a> {
+    /// Message type.
+    pub message_type: u8,
+
+    /// Message ID.
+    pub message_id: u32,
+
+    /// Expiration, seconds since UNIX epoch.
+    pub expiration: u32,
+
+    /// The message itself.
+    pub payload: &'a [u8],
+}
+
+/// What a block delivers.
+#[derive(Debug, Clone, Copy, PartialEq, Eq)]
+pub enum Delivered<'a> {
+    /// Nothing: a piece was kept, or the block is none that carries a message.
+    Nothing,
+
+    /// The whole message that an I2NP block has, as a part of the payload.
+    Whole(Message<'a>),
+
+    /// The message that a piece finished, as a part of the assembly buffer.
+    Rebuilt(Message<'a>),
+}
+
+impl<'a> Delivered<'a> {
+    /// The message, whole or rebuilt.
+    pub fn message(self) -> Option<Message<'a>> {
+        match self {
+            Delivered::Nothing => None,
+            Delivered::Whole(message) | Delivered::Rebuilt(message) => Some(message),
+        }
+    }
+}
+
+/// All bytes that a [`FragmentHandler`] needs, 1,122,671 of them, empty at the start.
+///
+/// It can stand in a static, in a Box or beside other state; a handler borrows it for as long as it is
+/// used. All zero is empty, so a static takes no room in the program's file.
+///
+/// ```
+/// use std::sync::Mutex;
+/// use strawhub::FragmentStorage;
+///
+/// static PIECES: Mutex<FragmentStorage> = Mutex::new(FragmentStorage::new());
+///
+/// let mut storage = PIECES.lock().unwrap();
+/// assert_eq!(storage.handler().first_fragment(20, 7, 9, 100, b"ab"), Ok(None));
+/// let mut handler = storage.handler();
+/// let letter = handler.follow_on_fragment(7, 1, true, 101, b"cd")?.unwrap();
+/// assert_eq!((letter.message_type, letter.expiration, letter.payload), (20, 9, &b"abcd"[..]));
+/// # Ok::<(), strawhub::Refusal>(())
+/// ```
+pub struct FragmentStorage {
+    record: [u8; RECORD],
+    room: [u8; ROOM],
+    assembly: [u8; MESSAGE],
+}
+
+impl FragmentStorage {
+    /// Storage with no message open.
+    pub const fn new() -> Self {
+        FragmentStorage { record: [0; RECORD], room: [0; ROOM], assembly: [0; MESSAGE] }
+    }
+
+    /// A handler that goes on where the last one left.
+    pub fn handler(&mut self) -> FragmentHandler<'_> {
+        FragmentHandler { record: &mut self.record, room: &mut self.room, assembly: &mut self.assembly }
+    }
+}
+
+impl Default for FragmentStorage {
+    fn default() -> Self {
+        Self::new()
+    }
+}
+
+/// Fragment handler: keeps the pieces of at most 16 open messages, and gives a message out when its
+/// last number is known and every number up to it is held.
+///
+/// A piece comes with the present second. [`FragmentHandler::sweep`] drops what was opened 30 seconds
+/// ago or more.
+///
+/// ```
+/// use strawhub::{FragmentStorage, Refusal};
+///
+/// let mut storage = Box::new(FragmentStorage::new());
+/// let mut handler = storage.handler();
+/// handler.first_fragment(20, 7, 9, 100, b"a")?;
+/// handler.follow_on_fragment(7, 2, true, 100, b"c")?;
+/// // three pieces are not a letter of three: 5 is above the last number
+/// assert_eq!(handler.follow_on_fragment(7, 5, false, 100, b"f"), Err(Refusal::PieceConflict));
+/// let letter = handler.follow_on_fragment(7, 1, false, 100, b"b")?.unwrap();
+/// assert_eq!(letter.payload, b"abc");
+/// # Ok::<(), Refusal>(())
+/// ```
+pub struct FragmentHandler<'a> {
+    record: &'a mut [u8],
+    room: &'a mut [u8],
+    assembly: &'a mut [u8],
+}
+
+impl<'a> FragmentHandler<'a> {
+    /// An empty handler over lent bytes: a record of [`RECORD`], a room of [`ROOM`], and an assembly
+    /// buffer, which is always long enough with [`MESSAGE`]. Refuses a short record or room (59).
+    ///
+    /// ```
+    /// use strawhub::{FragmentHandler, Refusal, MESSAGE, RECORD, ROOM};
+    ///
+    /// let (mut record, mut room, mut assembly) = (vec![0; RECORD], vec![0; ROOM], vec![0; MESSAGE]);
+    /// let mut handler = FragmentHandler::new(&mut record, &mut room, &mut assembly)?;
+    /// assert_eq!(handler.first_fragment(20, 7, 9, 100, b"ab"), Ok(None));
+    ///
+    /// // the bytes hold the message, and another handler can go on with them
+    /// let mut handler = FragmentHandler::resume(&mut record, &mut room, &mut assembly)?;
+    /// assert_eq!(handler.first_fragment(20, 7, 9, 100, b"ab"), Err(Refusal::PieceAgain));
+    /// # Ok::<(), Refusal>(())
+    /// ```
+    pub fn new(record: &'a mut [u8], room: &'a mut [u8], assembly: &'a mut [u8]) -> Result<Self, Refusal> {
+        let handler = Self::resume(record, room, assembly)?;
+        Refusal::check(ffi::store_new(handler.record).into())?;
+        Ok(handler)
+    }
+
+    /// A handler over lent bytes that go on as the last handler left them. Refuses a short record or
+    /// room (59).
+    pub fn resume(record: &'a mut [u8], room: &'a mut [u8], assembly: &'a mut [u8]) -> Result<Self, Refusal> {
+        if record.len() < RECORD || room.len() < ROOM {
+            return Err(Refusal::LentShort);
+        }
+        Ok(FragmentHandler { record, room, assembly })
+    }
+
+    /// Handle first fragment. Gives the message if this piece was the last one missing.
+    ///
+    /// Refuses with 50 or 52 to 56.
+    pub fn first_fragment(
+        &mut self,
+        message_type: u8,
+        message_id: u32,
+        expiration: u32,
+        second: u64,
+        payload: &[u8],
+    ) -> Result<Option<Message<'_>>, Refusal> {
+        let reply = ffi::store_first(self.store(), message_id, message_type, expiration, second, payload);
+        self.finished(message_id, reply)
+    }
+
+    /// Handle follow-on fragment. Gives the message if this piece was the last one missing.
+    ///
+    /// Refuses with 50 to 56.
+    pub fn follow_on_fragment(
+        &mut self,
+        message_id: u32,
+        sequence: u8,
+        last: bool,
+        second: u64,
+        payload: &[u8],
+    ) -> Result<Option<Message<'_>>, Refusal> {
+        let reply = ffi::store_follow_on(self.store(), message_id, sequence, last, second, payload);
+        self.finished(message_id, reply)
+    }
+
+    /// Drops exactly the messages whose opening piece came 30 seconds before this one or earlier.
+    pub fn sweep(&mut self, second: u64) {
+        ffi::store_sweep(self.record, second);
+    }
+
+    /// What the block at a place of a payload delivers. Refuses as [`Block::read`] does, or as the
+    /// store refuses the piece that the block has.
+    ///
+    /// [`Block::read`]: crate::Block::read
+    ///
+    /// ```
+    /// use strawhub::{Block, Delivered, FragmentStorage, Message};
+    ///
+    /// let message = Message { message_type: 11, message_id: 7, expiration: 9, payload: b"letter" };
+    /// let mut payload = [0; 32];
+    /// let length = Block::I2Np { message }.write(&mut payload)?;
+    ///
+    /// let mut storage = Box::new(FragmentStorage::new());
+    /// let mut handler = storage.handler();
+    /// let delivered = handler.deliver(&payload[..length], 0, 100)?;
+    /// assert_eq!(delivered, Delivered::Whole(message));
+    /// # Ok::<(), strawhub::Refusal>(())
+    /// ```
+    pub fn deliver<'m>(&'m mut self, payload: &'m [u8], at: usize, second: u64) -> Result<Delivered<'m>, RefusedAt> {
+        let mut told = [0; 6];
+        let outcome = ffi::block_deliver(payload, at, self.store(), second, &mut told);
+        if outcome.number != 0 && outcome.number != FINISHED {
+            let refusal = Refusal::of(outcome.number);
+            return Err(RefusedAt { refusal, place: at });
+        }
+        let [stands, message_type, message_id, expiration, start, length] = told;
+        let message = |bytes: &'m [u8]| Message {
+            message_type: message_type as u8,
+            message_id: message_id as u32,
+            expiration: expiration as u32,
+            payload: &bytes[start as usize..][..length as usize],
+        };
+        Ok(match stands {
+            IN_PAYLOAD => Delivered::Whole(message(payload)),
+            IN_ASSEMBLY => Delivered::Rebuilt(message(self.assembly)),
+            _ => Delivered::Nothing,
+        })
+    }
+
+    fn store(&mut self) -> ffi::Store<'_> {
+        ffi::Store { record: self.record, room: self.room, out: self.assembly }
+    }
+
+    /// A reply as the message that it finished, none, or the refusal.
+    fn finished(&self, message_id: u32, reply: ffi::Reply) -> Result<Option<Message<'_>>, Refusal> {
+        if u64::from(reply.number) != FINISHED {
+            return Refusal::check(reply.number.into()).map(|()| None);
+        }
+        Ok(Some(Message {
+            message_type: reply.kind,
+            message_id,
+            expiration: reply.expires,
+            payload: &self.assembly[..reply.length],
+        }))
+    }
+}
+
+/// The answer that a message is finished.
+const FINISHED: u64 = 60;
+
+/// Where a delivered message stands.
+const IN_PAYLOAD: u64 = 1;
+const IN_ASSEMBLY: u64 = 2;
