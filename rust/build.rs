@@ -14,6 +14,8 @@ fn main() {
         );
         process::exit(1);
     }
+    // a folder that was named from elsewhere has to be found from there too
+    let folder = folder.canonicalize().unwrap_or(folder);
     println!("cargo:rustc-link-search=native={}", folder.display());
     println!("cargo:rustc-link-lib=static=strawhub");
 }
