@@ -1,6 +1,6 @@
 //! Prints the blocks of a payload and what they deliver: `cargo run --example receive -- 0000046553f100`.
 use std::process::ExitCode;
-use strawhub::{blocks, FragmentStorage};
+use strawhub::{blocks, FragmentStorage, STORAGE};
 
 /// DateTime, then pieces 0, 2 (the last), 5 (of another letter) and 1 of one id.
 const SAMPLE: &str = "0000046553f100 04000e14000000076554000068656c6c6f 05000b0500000007776f726c6421
@@ -18,7 +18,7 @@ fn main() -> ExitCode {
         eprintln!("receive: the payload is not written in pairs of hexadecimal digits");
         return ExitCode::FAILURE;
     };
-    let mut storage = Box::new(FragmentStorage::new());
+    let mut storage = FragmentStorage::over(vec![0; STORAGE]).expect("all bytes are there");
     let mut handler = storage.handler();
     for block in blocks(&payload) {
         match block {

@@ -11,6 +11,9 @@ pub const ROOM: usize = 1_048_560;
 /// The bytes of a message at most, and so of an assembly buffer that is always enough.
 pub const MESSAGE: usize = 65_535;
 
+/// The bytes of all three.
+pub const STORAGE: usize = RECORD + ROOM + MESSAGE;
+
 /// An I2NP message, its bytes a part of what it came in.
 #[derive(Debug, Clone, Copy, PartialEq, Eq, Hash)]
 pub struct Message<'a> {
@@ -50,15 +53,13 @@ impl<'a> Delivered<'a> {
     }
 }
 
-/// All bytes that a [`FragmentHandler`] needs, 1,122,671 of them, empty at the start.
-///
-/// It can stand in a static, in a Box or beside other state; a handler borrows it for as long as it is
-/// used. All zero is empty, so a static takes no room in the program's file.
+/// All bytes that a [`FragmentHandler`] needs: in itself, for a static, or over a `Vec`, a `Box` or a slice.
 ///
 /// ```
 /// use std::sync::Mutex;
-/// use strawhub::FragmentStorage;
+/// use strawhub::{FragmentStorage, STORAGE};
 ///
+/// // all zero is empty: this takes no room in the program's file
 /// static PIECES: Mutex<FragmentStorage> = Mutex::new(FragmentStorage::new());
 ///
 /// let mut storage = PIECES.lock().unwrap();
@@ -66,23 +67,40 @@ impl<'a> Delivered<'a> {
 /// let mut handler = storage.handler();
 /// let letter = handler.follow_on_fragment(7, 1, true, 101, b"cd")?.unwrap();
 /// assert_eq!((letter.message_type, letter.expiration, letter.payload), (20, 9, &b"abcd"[..]));
+///
+/// // on the heap
+/// let mut storage = FragmentStorage::over(vec![0; STORAGE])?;
+/// assert_eq!(storage.handler().first_fragment(20, 7, 9, 100, b"ab"), Ok(None));
 /// # Ok::<(), strawhub::Refusal>(())
 /// ```
-pub struct FragmentStorage {
-    record: [u8; RECORD],
-    room: [u8; ROOM],
-    assembly: [u8; MESSAGE],
+pub struct FragmentStorage<B = [u8; STORAGE]> {
+    bytes: B,
 }
 
 impl FragmentStorage {
-    /// Storage with no message open.
+    /// Storage with no message open, for a static. These are 1,122,671 bytes: more than a thread's stack may have
+    /// left.
     pub const fn new() -> Self {
-        FragmentStorage { record: [0; RECORD], room: [0; ROOM], assembly: [0; MESSAGE] }
+        FragmentStorage { bytes: [0; STORAGE] }
+    }
+}
+
+impl<B: AsMut<[u8]>> FragmentStorage<B> {
+    /// Storage over bytes of your own, with no message open. Refuses less than [`STORAGE`] of them (59).
+    pub fn over(mut bytes: B) -> Result<Self, Refusal> {
+        if bytes.as_mut().len() < STORAGE {
+            return Err(Refusal::LentShort);
+        }
+        let mut storage = FragmentStorage { bytes };
+        Refusal::check(ffi::store_new(storage.handler().record).into())?;
+        Ok(storage)
     }
 
     /// A handler that goes on where the last one left.
     pub fn handler(&mut self) -> FragmentHandler<'_> {
-        FragmentHandler { record: &mut self.record, room: &mut self.room, assembly: &mut self.assembly }
+        let (record, rest) = self.bytes.as_mut().split_at_mut(RECORD);
+        let (room, assembly) = rest.split_at_mut(ROOM);
+        FragmentHandler { record, room, assembly }
     }
 }
 
@@ -99,9 +117,9 @@ impl Default for FragmentStorage {
 /// ago or more.
 ///
 /// ```
-/// use strawhub::{FragmentStorage, Refusal};
+/// use strawhub::{FragmentStorage, Refusal, STORAGE};
 ///
-/// let mut storage = Box::new(FragmentStorage::new());
+/// let mut storage = FragmentStorage::over(vec![0; STORAGE])?;
 /// let mut handler = storage.handler();
 /// handler.first_fragment(20, 7, 9, 100, b"a")?;
 /// handler.follow_on_fragment(7, 2, true, 100, b"c")?;
@@ -189,13 +207,13 @@ impl<'a> FragmentHandler<'a> {
     /// [`Block::read`]: crate::Block::read
     ///
     /// ```
-    /// use strawhub::{Block, Delivered, FragmentStorage, Message};
+    /// use strawhub::{Block, Delivered, FragmentStorage, Message, STORAGE};
     ///
     /// let message = Message { message_type: 11, message_id: 7, expiration: 9, payload: b"letter" };
     /// let mut payload = [0; 32];
     /// let length = Block::I2Np { message }.write(&mut payload)?;
     ///
-    /// let mut storage = Box::new(FragmentStorage::new());
+    /// let mut storage = FragmentStorage::over(vec![0; STORAGE])?;
     /// let mut handler = storage.handler();
     /// let delivered = handler.deliver(&payload[..length], 0, 100)?;
     /// assert_eq!(delivered, Delivered::Whole(message));

@@ -101,9 +101,14 @@ impl TryFrom<u8> for ProtocolVersion {
 
 /// Header kind: the fields of a header, by its type.
 ///
-/// `dst_id` is the destination connection ID, `src_id` the source connection ID, `pkt_num` the packet
-/// number and `net_id` the network ID.
-#[allow(missing_docs)] // the fields are named above
+/// - `dst_id`, `src_id`: destination and source connection ID;
+/// - `pkt_num`: packet number;
+/// - `version`, `net_id`: protocol version, network ID;
+/// - `token`: the token, its first byte on the wire the lowest;
+/// - `ephemeral_key`: the ephemeral public key that follows the header;
+/// - `fragment`, `num_fragments`: fragment number and how many there are;
+/// - `immediate_ack`: whether an immediate ACK is asked for.
+#[allow(missing_docs)] // the list above has the fields of every variant
 #[derive(Debug, Clone, Copy, PartialEq, Eq, Hash)]
 pub enum HeaderKind {
     /// Session request, with the ephemeral public key after its header.

@@ -13,9 +13,9 @@
 //! has changed.
 //!
 //! ```
-//! use strawhub::{blocks, Delivered, FragmentStorage};
+//! use strawhub::{blocks, Delivered, FragmentStorage, STORAGE};
 //!
-//! let mut storage = Box::new(FragmentStorage::new());
+//! let mut storage = FragmentStorage::over(vec![0; STORAGE])?;
 //! let mut handler = storage.handler();
 //!
 //! // FollowOnFragment 1, the last, and FirstFragment, of message 7
@@ -30,7 +30,7 @@
 //!     }
 //! }
 //! assert_eq!(letters, 1);
-//! # Ok::<(), strawhub::RefusedAt>(())
+//! # Ok::<(), Box<dyn std::error::Error>>(())
 //! ```
 #![no_std]
 #![deny(unsafe_code)]
@@ -46,6 +46,6 @@ mod refusal;
 
 pub use ack::{expand, AckInfo, Ranges, RemoteAckManager};
 pub use block::{blocks, list_blocks, Block, Blocks, Entry};
-pub use fragment::{Delivered, FragmentHandler, FragmentStorage, Message, MESSAGE, RECORD, ROOM};
+pub use fragment::{Delivered, FragmentHandler, FragmentStorage, Message, MESSAGE, RECORD, ROOM, STORAGE};
 pub use header::{keystream, HeaderKind, HeaderReader, MessageType, ProtocolVersion};
 pub use refusal::{Refusal, RefusedAt};

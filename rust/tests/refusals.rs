@@ -5,8 +5,8 @@ mod common;
 use common::{first, headers, next, packet, packet_as, Lent, K1, K2, NOW};
 use std::collections::BTreeSet;
 use strawhub::{
-    blocks, expand, list_blocks, Block, Entry, FragmentHandler, HeaderKind, HeaderReader, Message, Ranges, Refusal,
-    RemoteAckManager, MESSAGE, RECORD, ROOM,
+    blocks, expand, list_blocks, Block, Entry, FragmentHandler, FragmentStorage, HeaderKind, HeaderReader, Message,
+    Ranges, Refusal, RemoteAckManager, MESSAGE, RECORD, ROOM, STORAGE,
 };
 
 /// A payload that is refused, by the reader, the walk, the listing and the store alike.
@@ -160,6 +160,10 @@ fn of_stores() -> Vec<u8> {
 }
 
 fn of_short_bytes() -> Vec<u8> {
+    let mut bytes = vec![9; STORAGE];
+    assert_eq!(FragmentStorage::over(&mut bytes[1..]).err(), Some(Refusal::LentShort));
+    assert!(bytes.iter().all(|&byte| byte == 9));
+    assert!(FragmentStorage::over(bytes).unwrap().handler().first_fragment(20, 1, 2, NOW, b"a").is_ok());
     [(RECORD - 1, ROOM), (RECORD, ROOM - 1)]
         .map(|(record, room)| {
             let (mut record, mut room, mut assembly) = (vec![9; record], vec![9; room], vec![9; MESSAGE]);

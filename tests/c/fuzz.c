@@ -712,10 +712,10 @@ static void keep_record(void)
 	stays(&record, sizeof record_now);
 }
 
-/* Flush against the page before it or the one after; rarely too short. */
+/* Flush against the page before it or the one after; rarely too short, or longer than it has to be. */
 static void lend_room(void)
 {
-	room_length = one_in(80) ? below(STRAWHUB_ROOM) : STRAWHUB_ROOM;
+	room_length = one_in(80) ? below(STRAWHUB_ROOM) : one_in(5000) ? PAGES * PAGE : STRAWHUB_ROOM;
 	room_at = room_first ? store_room : store_room + PAGES * PAGE - room_length;
 }
 
