@@ -9,7 +9,7 @@ const TRACKER: usize = 259;
 /// The longest pairs of a report.
 const PAIRS: usize = 254;
 
-/// Remote ACK manager: the numbers received among the newest 255.
+/// The packet numbers that came, of the newest 255.
 ///
 /// ```
 /// use strawhub::{RemoteAckManager, Refusal};
@@ -97,10 +97,10 @@ impl fmt::Debug for RemoteAckManager {
     }
 }
 
-/// ACK info.
+/// An acknowledgement.
 #[derive(Clone, Copy)]
 pub struct AckInfo {
-    /// Highest seen packet number.
+    /// The highest number that came.
     pub highest_seen: u32,
 
     /// How many numbers directly below it were received.
@@ -145,7 +145,7 @@ impl fmt::Debug for AckInfo {
     }
 }
 
-/// NACK/ACK ranges, as an Ack block has them: bytes in pairs, how many are missing and then how many
+/// Runs of numbers as an Ack block has them: bytes in pairs, how many are missing and then how many
 /// were received, going down.
 ///
 /// ```

@@ -3,143 +3,143 @@
 use crate::{ffi, Message, Ranges, Refusal, RefusedAt};
 use core::net::{IpAddr, SocketAddr};
 
-/// SSU2 message block, its bytes a part of the payload.
+/// A block, its bytes a part of the payload that it was read from.
 #[derive(Debug, Clone, Copy, PartialEq, Eq, Hash)]
 pub enum Block<'a> {
-    /// Date time.
+    /// Type 0: the sender's clock.
     DateTime {
-        /// Seconds since UNIX epoch.
+        /// In seconds of Unix time.
         timestamp: u32,
     },
 
-    /// Options.
+    /// Type 1: what the sender offers and asks for.
     Options {
-        /// Requested minimum padding for transfers.
+        /// Least padding of what it sends.
         t_min: u8,
-        /// Requested maximum padding for transfers.
+        /// Most padding of what it sends.
         t_max: u8,
-        /// Requested minimum padding for receptions.
+        /// Least padding of what it receives.
         r_min: u8,
-        /// Requested maximum padding for receptions.
+        /// Most padding of what it receives.
         r_max: u8,
-        /// Maximum dummy traffic that the router is willing to send.
+        /// Dummy traffic that it sends.
         t_dmy: u16,
-        /// Requested maximum dummy traffic.
+        /// Dummy traffic that it receives.
         r_dmy: u16,
-        /// Maximum delay within a message that the router is willing to insert.
+        /// Delay of what it sends.
         t_delay: u16,
-        /// Requested delay within a message.
+        /// Delay of what it receives.
         r_delay: u16,
     },
 
-    /// Router info.
+    /// Type 2: a router's description.
     RouterInfo {
-        /// Bit 0 asks for a flood, bit 1 says that the bytes are packed.
+        /// Bit 0 asks for it to be passed on, bit 1 says that it is packed.
         flag: u8,
-        /// Fragment.
+        /// The fragment byte, as it stands.
         frag: u8,
-        /// The router info, as it stands.
+        /// The description, not looked into.
         serialized: &'a [u8],
     },
 
-    /// I2NP message.
+    /// Type 3: a whole I2NP message.
     I2Np {
         /// The message.
         message: Message<'a>,
     },
 
-    /// First fragment.
+    /// Type 4: the first piece of an I2NP message, with the message's head.
     FirstFragment {
-        /// Message type.
+        /// The message's type.
         message_type: u8,
-        /// Message ID.
+        /// The message's id.
         message_id: u32,
-        /// Expiration, seconds since UNIX epoch.
+        /// When the message lapses, in seconds of Unix time.
         expiration: u32,
-        /// Fragment of an I2NP message.
+        /// The piece.
         fragment: &'a [u8],
     },
 
-    /// Follow-on fragment.
+    /// Type 5: another piece of an I2NP message.
     FollowOnFragment {
-        /// Last fragment.
+        /// Whether no piece has a higher number.
         last: bool,
-        /// Message ID.
+        /// The message's id.
         message_id: u32,
-        /// Fragment number.
+        /// The piece's number.
         fragment_num: u8,
-        /// Fragment of an I2NP message.
+        /// The piece.
         fragment: &'a [u8],
     },
 
-    /// Termination.
+    /// Type 6: the session ends.
     Termination {
-        /// Number of valid packets received.
+        /// How many good packets the sender has had.
         num_valid_pkts: u64,
-        /// Reason for termination.
+        /// Why it ends, by number.
         reason: u8,
     },
 
-    /// Ack. [`expand`](crate::expand) gives the numbers that it names.
+    /// Type 12: an acknowledgement. [`expand`](crate::expand) gives the numbers that it names.
     Ack {
-        /// ACK through.
+        /// The highest number that it names.
         ack_through: u32,
-        /// Number of ACKs below `ack_through`.
+        /// How many directly below it are named too.
         num_acks: u8,
-        /// NACK/ACK ranges.
+        /// The runs below those.
         ranges: Ranges<'a>,
     },
 
-    /// Address.
+    /// Type 13: an address.
     Address {
-        /// Socket address. Of one of version 6, the flow and the scope are not in the block.
+        /// Its IP and port. The block has no flow or scope: those of an IPv6 address are 0.
         address: SocketAddr,
     },
 
-    /// Relay tag request.
+    /// Type 15: a relay tag is asked for.
     RelayTagRequest,
 
-    /// Relay tag.
+    /// Type 16: a relay tag.
     RelayTag {
-        /// Relay tag.
+        /// The tag.
         relay_tag: u32,
     },
 
-    /// New token.
+    /// Type 17: a token for the next session.
     NewToken {
-        /// Expiration, seconds since UNIX epoch.
+        /// When it lapses, in seconds of Unix time.
         expires: u32,
-        /// Token, its first byte the highest. A header reads those 8 bytes with the first the lowest.
+        /// The token, its first byte the highest. A header reads those 8 bytes with the first the lowest.
         token: u64,
     },
 
-    /// Path challenge.
+    /// Type 18: bytes that are to come back.
     PathChallenge {
-        /// Challenge.
+        /// The bytes.
         challenge: &'a [u8],
     },
 
-    /// Path response.
+    /// Type 19: bytes that came back.
     PathResponse {
-        /// Response.
+        /// The bytes.
         response: &'a [u8],
     },
 
-    /// First packet number.
+    /// Type 20: the packet number that a session starts with.
     FirstPacketNumber {
-        /// First packet number.
+        /// The number.
         first_pkt_num: u32,
     },
 
-    /// Congestion.
+    /// Type 21: how busy the sender is.
     Congestion {
-        /// Flag.
+        /// The flag byte.
         flag: u8,
     },
 
-    /// Padding.
+    /// Type 254: padding.
     Padding {
-        /// Padding.
+        /// The bytes.
         padding: &'a [u8],
     },
 

@@ -17,16 +17,16 @@ pub const STORAGE: usize = RECORD + ROOM + MESSAGE;
 /// An I2NP message, its bytes a part of what it came in.
 #[derive(Debug, Clone, Copy, PartialEq, Eq, Hash)]
 pub struct Message<'a> {
-    /// Message type.
+    /// Its type.
     pub message_type: u8,
 
-    /// Message ID.
+    /// Its id.
     pub message_id: u32,
 
-    /// Expiration, seconds since UNIX epoch.
+    /// When it lapses, in seconds of Unix time.
     pub expiration: u32,
 
-    /// The message itself.
+    /// Its bytes.
     pub payload: &'a [u8],
 }
 
@@ -110,7 +110,7 @@ impl Default for FragmentStorage {
     }
 }
 
-/// Fragment handler: keeps the pieces of at most 16 open messages, and gives a message out when its
+/// Keeps the pieces of at most 16 open messages, and gives a message out when its
 /// last number is known and every number up to it is held.
 ///
 /// A piece comes with the present second. [`FragmentHandler::sweep`] drops what was opened 30 seconds
@@ -166,7 +166,7 @@ impl<'a> FragmentHandler<'a> {
         Ok(FragmentHandler { record, room, assembly })
     }
 
-    /// Handle first fragment. Gives the message if this piece was the last one missing.
+    /// A first piece came. Gives the message if no other was missing.
     ///
     /// Refuses with 50 or 52 to 56.
     pub fn first_fragment(
@@ -181,7 +181,7 @@ impl<'a> FragmentHandler<'a> {
         self.finished(message_id, reply)
     }
 
-    /// Handle follow-on fragment. Gives the message if this piece was the last one missing.
+    /// A follow-on piece came. Gives the message if no other was missing.
     ///
     /// Refuses with 50 to 56.
     pub fn follow_on_fragment(

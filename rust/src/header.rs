@@ -9,7 +9,7 @@ const PKT_MIN_SIZE: usize = 40;
 /// The first block of the keystream that masks a header.
 const FIRST_BLOCK: u32 = 1;
 
-/// SSU2 message type.
+/// A packet's type.
 ///
 /// ```
 /// use strawhub::MessageType;
@@ -74,7 +74,7 @@ impl TryFrom<u8> for MessageType {
     }
 }
 
-/// Protocol version.
+/// The protocol's version.
 #[derive(Debug, Clone, Copy, PartialEq, Eq, Hash)]
 #[repr(u8)]
 pub enum ProtocolVersion {
@@ -99,19 +99,19 @@ impl TryFrom<u8> for ProtocolVersion {
     }
 }
 
-/// Header kind: the fields of a header, by its type.
+/// A header's fields, by the packet's type.
 ///
-/// - `dst_id`, `src_id`: destination and source connection ID;
-/// - `pkt_num`: packet number;
-/// - `version`, `net_id`: protocol version, network ID;
+/// - `dst_id`, `src_id`: the ids of destination and source;
+/// - `pkt_num`: the packet number;
+/// - `version`, `net_id`: the protocol's version, the network's id;
 /// - `token`: the token, its first byte on the wire the lowest;
-/// - `ephemeral_key`: the ephemeral public key that follows the header;
-/// - `fragment`, `num_fragments`: fragment number and how many there are;
-/// - `immediate_ack`: whether an immediate ACK is asked for.
+/// - `ephemeral_key`: the 32-byte key that follows the header;
+/// - `fragment`, `num_fragments`: which fragment this is, of how many;
+/// - `immediate_ack`: whether it asks to be acknowledged at once.
 #[allow(missing_docs)] // the list above has the fields of every variant
 #[derive(Debug, Clone, Copy, PartialEq, Eq, Hash)]
 pub enum HeaderKind {
-    /// Session request, with the ephemeral public key after its header.
+    /// Asks for a session; a key follows the header.
     SessionRequest {
         dst_id: u64,
         pkt_num: u32,
@@ -122,7 +122,7 @@ pub enum HeaderKind {
         ephemeral_key: [u8; 32],
     },
 
-    /// Session created, with the ephemeral public key after its header.
+    /// Answers that; a key follows the header.
     SessionCreated {
         dst_id: u64,
         pkt_num: u32,
@@ -133,22 +133,22 @@ pub enum HeaderKind {
         ephemeral_key: [u8; 32],
     },
 
-    /// Session confirmed: this fragment of so many. Its packet number is 0.
+    /// Confirms the session. The packet number is 0.
     SessionConfirmed { dst_id: u64, pkt_num: u32, fragment: u8, num_fragments: u8 },
 
-    /// Data, and whether an immediate ACK was asked for.
+    /// A session's packet.
     Data { dst_id: u64, pkt_num: u32, immediate_ack: bool },
 
-    /// Peer test.
+    /// Part of a test of reachability.
     PeerTest { dst_id: u64, pkt_num: u32, version: ProtocolVersion, net_id: u8, src_id: u64, token: u64 },
 
-    /// Retry.
+    /// Gives a token.
     Retry { dst_id: u64, pkt_num: u32, version: ProtocolVersion, net_id: u8, src_id: u64, token: u64 },
 
-    /// Token request.
+    /// Asks for a token.
     TokenRequest { dst_id: u64, pkt_num: u32, version: ProtocolVersion, net_id: u8, src_id: u64, token: u64 },
 
-    /// Hole punch.
+    /// Opens the way for a session.
     HolePunch { dst_id: u64, pkt_num: u32, version: ProtocolVersion, net_id: u8, src_id: u64, token: u64 },
 }
 
@@ -167,12 +167,12 @@ impl HeaderKind {
         }
     }
 
-    /// Destination connection ID.
+    /// The destination's id.
     pub fn dst_id(&self) -> u64 {
         self.fields().destination
     }
 
-    /// Packet number.
+    /// The packet number.
     pub fn pkt_num(&self) -> u32 {
         self.fields().number
     }
@@ -286,7 +286,7 @@ impl HeaderKind {
     }
 }
 
-/// Header reader: one packet, and the first key of its header.
+/// A packet, and the first key of its header.
 ///
 /// ```
 /// use strawhub::{HeaderKind, HeaderReader, ProtocolVersion};
@@ -317,7 +317,7 @@ impl<'a> HeaderReader<'a> {
         Ok(HeaderReader { k_header_1, pkt })
     }
 
-    /// Destination connection ID, which needs the first key alone. The packet stays as it is, so this
+    /// The destination's id, which needs the first key alone. The packet stays as it is, so this
     /// is the masked packet's, before [`HeaderReader::parse`].
     pub fn dst_id(&self) -> u64 {
         let mut nonce = [0; 12];
