@@ -1,5 +1,6 @@
 # make list: the blocks of a payload. make test: the format, then the whole gate. make bench: both sides timed in one run.
-.PHONY: list test bench
+# make calls: the C calls, and a short round of any bytes. make fuzz: ten million. make rust: the crate's tests.
+.PHONY: list test bench calls fuzz rust
 
 # a sample unless FILE names a payload
 FILE = crates/lister/stdin
@@ -13,7 +14,20 @@ list:
 
 test:
 	rt fmt --check
+	tests/c/run
 	rt ci
 
 bench:
 	bench/run
+
+calls:
+	tests/c/run
+
+# another SEED, other bytes
+SEED = 1
+
+fuzz:
+	tests/c/run fuzz $(SEED) 10000000
+
+rust:
+	rust/run
