@@ -1,5 +1,6 @@
-# make list: the blocks of a payload. make test: the format, then the whole gate. make bench: both sides timed in one run.
-.PHONY: list test bench
+# make list: the blocks of a payload. make test: the format, a short oracle round, then the whole gate.
+# make oracle: the original Rust beside the library, millions of calls. make bench: both sides timed in one run.
+.PHONY: list test oracle bench
 
 # a sample unless FILE names a payload
 FILE = crates/lister/stdin
@@ -13,7 +14,11 @@ list:
 
 test:
 	rt fmt --check
+	oracle/run '' 1 200000
 	rt ci
+
+oracle:
+	oracle/run
 
 bench:
 	bench/run
