@@ -1,10 +1,12 @@
 //! Compares the original Rust's three files, unchanged, with the proved library, call by call.
 mod acks;
+mod blocks;
 mod driver;
 mod headers;
 mod known;
 mod reassembly;
 mod tally;
+mod written;
 
 const USAGE: &str = "oracle: compare SEED COUNT | known | acks";
 
@@ -17,7 +19,7 @@ fn number(word: Option<String>) -> u64 {
 
 fn compare(seed: u64, count: u64) -> i32 {
     println!("oracle: seed {seed}, at least {count} comparisons of each part");
-    let parts = [headers::compare, acks::compare, reassembly::compare];
+    let parts = [headers::compare, blocks::compare, written::compare, acks::compare, reassembly::compare];
     let (mut all, mut wrong) = (0, 0);
     for part in parts {
         let (done, differ) = part(seed, count);
@@ -32,6 +34,7 @@ fn main() {
     let status = match words.next().as_deref() {
         Some("compare") => compare(number(words.next()), number(words.next())),
         Some("known") => known::run(),
+        Some("overflow") => known::blocks::overflow(),
         Some("acks") => driver::run(),
         _ => {
             eprintln!("{USAGE}");

@@ -5,6 +5,7 @@ use oracle::{
     fragment::FragmentHandler,
     i2np::{Message, MessageType},
     inputs::hex,
+    message::Block,
     primitives::MessageId,
     random::Random,
     runtime::{NoMetrics, Rt},
@@ -34,11 +35,13 @@ pub enum Answer {
 pub struct Both {
     pub rust: FragmentHandler<Rt>,
     pub ours: Store,
+    /// Pieces travel in payloads: the Rust parses them, and strawhub_block_deliver takes the block from its place.
+    pub in_payloads: bool,
 }
 
 impl Both {
     pub fn new() -> Self {
-        Self { rust: FragmentHandler::new(NoMetrics), ours: Store::new() }
+        Self { rust: FragmentHandler::new(NoMetrics), ours: Store::new(), in_payloads: false }
     }
 
     pub fn renew(&mut self) {
@@ -50,20 +53,69 @@ impl Both {
     pub fn rust(&mut self, m: &Whole, number: usize, held: bool) -> Answer {
         let (id, bytes) = (MessageId::from(m.id), m.pieces[number].clone());
         let message = match number {
+            _ if self.in_payloads => self.parsed(&payload(m, number).0),
             0 => self.rust.first_fragment(MessageType(m.kind), id, m.expires, bytes),
             _ => self.rust.follow_on_fragment(id, number as u8, number + 1 == m.pieces.len(), bytes),
         };
         told(message, held)
     }
 
+    /// As the Rust's session does: the payload's blocks, and the pieces among them to the handler.
+    fn parsed(&mut self, payload: &[u8]) -> Option<Message> {
+        let piece = |block| match block {
+            Block::FirstFragment { message_type, message_id, expiration, fragment } => {
+                self.rust.first_fragment(message_type, message_id, expiration, fragment)
+            }
+            Block::FollowOnFragment { last, message_id, fragment_num, fragment } => {
+                self.rust.follow_on_fragment(message_id, fragment_num, last, fragment)
+            }
+            _ => None,
+        };
+        Block::parse::<Rt>(payload).expect("a payload of good blocks").into_iter().filter_map(piece).last()
+    }
+
     pub fn ours(&mut self, m: &Whole, number: usize, second: u64) -> Answer {
         let bytes = &m.pieces[number];
+        if self.in_payloads {
+            return self.delivered(m, number, second);
+        }
         let reply = match number {
             0 => self.ours.first(m.id, m.kind, m.expires, second, bytes),
             _ => self.ours.follow_on(m.id, number as u8, number + 1 == m.pieces.len(), second, bytes),
         };
         said(m.id, reply, &self.ours.out)
     }
+
+    fn delivered(&mut self, m: &Whole, number: usize, second: u64) -> Answer {
+        let ((payload, at), mut told) = (payload(m, number), [0; 6]);
+        let outcome = self.ours.deliver(&payload, at, second, &mut told);
+        match (outcome.number, told) {
+            (0, [0, 0, 0, 0, 0, 0]) => Answer::Kept,
+            (54, _) => Answer::Again,
+            (60, [2, kind, id, expires, place, length]) => {
+                let bytes = self.ours.out[place as usize..(place + length) as usize].to_vec();
+                Answer::Finished { id: id as u32, kind: kind as u8, expires: expires as u32, bytes }
+            }
+            (number, _) => Answer::Refused(number as u8),
+        }
+    }
+}
+
+/// A payload with a piece between a time and padding, and the piece's place.
+fn payload(m: &Whole, number: usize) -> (Vec<u8>, usize) {
+    let mut out = vec![0, 0, 4, 1, 2, 3, 4];
+    let (at, piece) = (out.len(), &m.pieces[number]);
+    let id = m.id.to_be_bytes();
+    let (kind, head) = match number {
+        0 => (4, [&[m.kind][..], &id, &m.expires.to_be_bytes()].concat()),
+        _ => (5, [&[(number * 2 + (number + 1 == m.pieces.len()) as usize) as u8][..], &id].concat()),
+    };
+    out.push(kind);
+    out.extend(((head.len() + piece.len()) as u16).to_be_bytes());
+    out.extend(head);
+    out.extend(piece);
+    out.extend([254, 0, 1, 0]);
+    (out, at)
 }
 
 pub fn told(message: Option<Message>, held: bool) -> Answer {
@@ -155,6 +207,7 @@ fn send(both: &mut Both, tally: &mut Tally, m: &Whole, number: usize, held: bool
 /// Up to 16 messages at once, their pieces in any order between each other, new messages as others finish.
 fn schedule(both: &mut Both, random: &mut Random, tally: &mut Tally) {
     both.renew();
+    both.in_payloads = random.once_in(2);
     let most = random.pick(&[1, 2, 5, OPEN, OPEN]);
     let mut open: Vec<Sending> = Vec::new();
     for step in 0..500 {

@@ -18,6 +18,11 @@ impl Tally {
         Self { name, goal, done: 0, differ: 0, outside: 0 }
     }
 
+    /// As many more beside what was compared.
+    pub fn also(&mut self, more: u64) {
+        self.goal = self.done + more;
+    }
+
     /// Whether more is wanted.
     pub fn wants(&self) -> bool {
         self.done < self.goal && self.differ < SHOWN

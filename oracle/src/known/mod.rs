@@ -1,5 +1,6 @@
 //! Every row of docs/DIFFERENCES.md, run on both sides: the Rust still answers what the row says, and so does the library.
 mod acks;
+pub mod blocks;
 mod headers;
 mod reassembly;
 
@@ -43,7 +44,12 @@ fn section(heading: &str, rows: &[Row]) -> (usize, usize) {
 
 pub fn run() -> i32 {
     std::panic::set_hook(Box::new(|_| {}));
-    let parts = [section("Header", headers::ROWS), section("Acks", acks::ROWS), section("Reassembly", reassembly::ROWS)];
+    let parts = [
+        section("Header", headers::ROWS),
+        section("Blocks", blocks::ROWS),
+        section("Acks", acks::ROWS),
+        section("Reassembly", reassembly::ROWS),
+    ];
     let (rows, wrong) = parts.iter().fold((0, 0), |(a, b), (c, d)| (a + c, b + d));
     println!("known: {rows} listed differences, {wrong} not as listed");
     (wrong > 0) as i32
