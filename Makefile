@@ -14,7 +14,7 @@ list:
 
 test:
 	rt fmt --check
-	oracle/run '' 1 200000
+	oracle/run '' 1 500000
 	rt ci
 
 oracle:

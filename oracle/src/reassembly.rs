@@ -32,6 +32,17 @@ pub enum Answer {
     Refused(u8),
 }
 
+impl Answer {
+    fn number(&self) -> u64 {
+        match self {
+            Answer::Kept => 0,
+            Answer::Again => 54,
+            Answer::Finished { .. } => 60,
+            Answer::Refused(number) => *number as u64,
+        }
+    }
+}
+
 pub struct Both {
     pub rust: FragmentHandler<Rt>,
     pub ours: Store,
@@ -200,8 +211,8 @@ impl Sending {
 fn send(both: &mut Both, tally: &mut Tally, m: &Whole, number: usize, held: bool, second: u64) -> bool {
     let (rust, ours) = (both.rust(m, number, held), both.ours(m, number, second));
     let input = || format!("id {} piece {number} of {} (held: {held}), bytes {}", m.id, m.pieces.len(), hex(&m.pieces[number]));
-    tally.compare(&rust, &ours, input);
-    matches!(rust, Answer::Finished { .. })
+    tally.compare(rust.number(), &rust, &ours, input);
+    rust.number() == 60
 }
 
 /// Up to 16 messages at once, their pieces in any order between each other, new messages as others finish.
@@ -271,5 +282,5 @@ pub fn compare(seed: u64, count: u64) -> (u64, u64) {
     while tally.wants() {
         schedule(&mut both, &mut random, &mut tally);
     }
-    tally.close()
+    tally.close(&[0, 54, 60])
 }

@@ -89,7 +89,7 @@ pub fn compare(seed: u64, count: u64) -> (u64, u64) {
         let s = random_shape(&mut random);
         let theirs = rust(&s, random.below(4));
         let mine = ours(&s, theirs.2.len());
-        tally.compare(&theirs, &mine, || format!("type {} fields {:?} bytes {}", s.kind, s.fields, hex(&s.bytes)));
+        tally.compare(0, &theirs, &mine, || format!("type {} fields {:?} bytes {}", s.kind, s.fields, hex(&s.bytes)));
     }
-    tally.close()
+    tally.close(&[0])
 }
