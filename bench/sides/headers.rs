@@ -11,8 +11,8 @@ const KEYS: ([u8; 32], [u8; 32]) = ([3; 32], [4; 32]);
 
 fn packet(kind: u8, len: usize) -> Vec<u8> {
     let mut packet: Vec<u8> = (0..len).map(|i| (i * 7 % 251) as u8).collect();
-    let fields = Fields { kind, destination: 5, version: 2, network: 2, source: 6, token: 7, fragment: 1, count: 1, ..Fields::default() };
-    assert_eq!(header_write(&mut packet, &KEYS.0, &KEYS.1, &fields), 0);
+    let named = Fields { kind, destination: 5, version: 2, network: 2, source: 6, token: 7, ..Fields::default() };
+    assert_eq!(header_write(&mut packet, &KEYS.0, &KEYS.1, &named), 0);
     packet
 }
 

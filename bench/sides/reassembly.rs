@@ -93,14 +93,18 @@ pub fn rows() -> Vec<Row> {
     let mut largest = vec![1_500; 43];
     largest.push(1_035);
     let shapes = [vec![64; 2], vec![1_439; 2], vec![511; 8], vec![64; 128], vec![511; 128], largest];
+    let orders = [
+        ("in order", Order::Up, 1),
+        ("reversed", Order::Down, 1),
+        ("mixed", Order::Mixed, 1),
+        ("16 messages mixed", Order::Mixed, 16),
+    ];
     let mut rows = Vec::new();
     for lengths in &shapes {
         let (count, total) = (lengths.len(), lengths.iter().sum::<usize>());
-        for (word, order) in [("in order", Order::Up), ("reversed", Order::Down), ("mixed", Order::Mixed)] {
-            for open in [1, 16] {
-                let with = if open > 1 { ", 16 messages in turn" } else { "" };
-                rows.push(row(format!("a piece: {count} of {} bytes ({total}), {word}{with}", lengths[0]), lengths, order, open));
-            }
+        for (word, order, open) in orders {
+            let name = format!("a piece of {} bytes, {count} in a message of {total}, {word}", lengths[0]);
+            rows.push(row(name, lengths, order, open));
         }
     }
     rows

@@ -161,24 +161,3 @@ pub fn compare(seed: u64, count: u64) -> (u64, u64) {
     }
     tally.close(&[0])
 }
-
-/// From 0 to 4,294,967,295, the last number there is, by the longest steps; reports on the way, and one after each of the last.
-pub fn climb() -> i32 {
-    const STEPS: u32 = u32::MAX / WINDOW;
-    let (mut tally, mut both) = (Tally::new("acks to the last number", u64::MAX), Both::new());
-    for step in 1..=STEPS {
-        both.register(step * WINDOW);
-        both.calls.clear();
-        if step % 4096 != 0 && step < STEPS - 1000 {
-            both.rust.ack_info();
-        } else if !both.report(&mut tally) {
-            tally.outside += 1;
-        }
-        if step % (STEPS / 10) == 0 {
-            println!("acks: at {}", both.highest);
-        }
-    }
-    println!("acks: the highest is {}", both.highest);
-    let (_, differ) = tally.close(&[0]);
-    (differ > 0) as i32
-}

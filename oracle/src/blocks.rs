@@ -1,4 +1,4 @@
-//! Blocks read: the Rust's Block::parse beside strawhub_block_read and strawhub_block_list, over the types that it is an oracle of.
+//! Blocks read: the Rust's Block::parse beside strawhub_block_read and strawhub_block_list, over the types it is an oracle of.
 use crate::tally::Tally;
 use oracle::{
     error::parser::Ssu2ParseError,
@@ -118,7 +118,10 @@ fn ours(payload: &[u8], w: &Walk) -> Answer {
         0 => list.iter().zip(&w.blocks).all(|(a, (b, _))| a == b) && outcome.value as usize == w.blocks.len(),
         _ => outcome.value as usize == w.end,
     };
-    let blocks = if agree && outcome.number == w.number { w.blocks.iter().map(|(_, s)| Some(s.clone())).collect() } else { vec![None] };
+    let blocks = match agree && outcome.number == w.number {
+        true => w.blocks.iter().map(|(_, s)| Some(s.clone())).collect(),
+        false => vec![None],
+    };
     Answer { number: outcome.number, value: outcome.value, blocks }
 }
 

@@ -8,7 +8,7 @@ mod reassembly;
 mod tally;
 mod written;
 
-const USAGE: &str = "oracle: compare SEED COUNT | known | acks | climb";
+const USAGE: &str = "oracle: compare SEED COUNT | known | acks";
 
 fn number(word: Option<String>) -> u64 {
     word.and_then(|w| w.parse().ok()).unwrap_or_else(|| {
@@ -34,7 +34,6 @@ fn main() {
     let status = match words.next().as_deref() {
         Some("compare") => compare(number(words.next()), number(words.next())),
         Some("known") => known::run(),
-        Some("climb") => acks::climb(),
         Some("overflow") => known::blocks::overflow(),
         Some("acks") => driver::run(),
         _ => {
