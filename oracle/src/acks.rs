@@ -3,7 +3,9 @@ use crate::tally::Tally;
 use oracle::{
     ack::{AckInfo, RemoteAckManager},
     ffi::{ack_expand, Tracker},
+    message::Block,
     random::Random,
+    runtime::Rt,
 };
 
 const WINDOW: u32 = 255;
@@ -61,8 +63,10 @@ impl Both {
         if !whole || named(&info) != held {
             return false;
         }
-        let rust = (0, info.highest_seen, cut(info.highest_seen, expand(&info)));
-        let ours = our_report(&self.ours);
+        let received = cut(info.highest_seen, expand(&info));
+        let rust = (0, info.highest_seen, received.clone(), received);
+        let (number, through, list) = our_report(&self.ours);
+        let ours = (number, through, list, read_by_rust(&self.ours));
         tally.compare(0, &rust, &ours, || format!("registered {:?}, reported last", self.calls));
         self.calls.push(u32::MAX);
         true
@@ -75,7 +79,7 @@ fn named(info: &AckInfo) -> u32 {
     1 + info.num_acks as u32 + pairs.sum::<u32>()
 }
 
-/// The received numbers that a report of the Rust's names, falling.
+/// The received numbers that a report in the Rust's form names, falling.
 fn expand(info: &AckInfo) -> Vec<u32> {
     let mut at = info.highest_seen;
     let mut numbers = vec![at];
@@ -104,6 +108,18 @@ fn our_report(tracker: &Tracker) -> (u32, u32, Vec<u32>) {
     let number = tracker.report(&mut out, &mut pairs);
     let expanded = ack_expand(out[0] as u32, out[1] as u8, &pairs[..out[2] as usize], &mut list);
     (number + expanded.number, out[0] as u32, list[..expanded.count].to_vec())
+}
+
+/// What the Rust takes our Ack block to name.
+fn read_by_rust(tracker: &Tracker) -> Vec<u32> {
+    let mut room = [0; 262];
+    let length = tracker.ack_block(&mut room).value as usize;
+    match Block::parse::<Rt>(&room[..length]).as_deref() {
+        Ok([Block::Ack { ack_through, num_acks, ranges }]) => {
+            expand(&AckInfo { highest_seen: *ack_through, num_acks: *num_acks, ranges: Some(ranges.clone()) })
+        }
+        _ => Vec::new(),
+    }
 }
 
 /// The next number: mostly a little above the highest, sometimes late, again, far or too far.

@@ -28,7 +28,7 @@ pub fn shape(kind: u8, fields: &[u64], bytes: &[u8]) -> Shape {
 }
 
 /// None for the blocks that are outside the domain.
-fn shape_of(block: &Block) -> Option<Shape> {
+pub fn shape_of(block: &Block) -> Option<Shape> {
     Some(match block {
         Block::DateTime { timestamp } => shape(0, &[*timestamp as u64], &[]),
         Block::Options { t_min, t_max, r_min, r_max, t_dmy, r_dmy, t_delay, r_delay } => {

@@ -3,7 +3,7 @@ use crate::tally::Tally;
 use oracle::{
     crypto::chachapoly::ChaCha,
     error::Ssu2Error,
-    ffi,
+    ffi::{self, Fields},
     inputs::{hex, packets, Live},
     message::{HeaderKind, HeaderReader, ProtocolVersion},
     random::Random,
@@ -183,4 +183,50 @@ pub fn compare(seed: u64, count: u64) -> (u64, u64) {
         one(&mut tally, &random(&mut rng, &all));
     }
     tally.close(&[0, 21, 22, 23, 24])
+}
+
+/// Fields within a type's places, at random.
+fn written(random: &mut Random) -> Fields {
+    let kind = random.pick(&TYPES);
+    let (long, confirmed, data) = (!matches!(kind, 2 | 6), kind == 2, kind == 6);
+    let when = |yes: bool, value: u64| if yes { value } else { 0 };
+    Fields {
+        kind,
+        destination: random.next(),
+        number: when(!confirmed, random.next()) as u32,
+        version: when(long, random.range(2, 4) as u64) as u8,
+        network: when(long, random.next() & 255) as u8,
+        source: when(long, random.next()),
+        token: when(long, random.next()),
+        fragment: when(confirmed, random.next() & 15) as u8,
+        count: when(confirmed, random.next() & 15) as u8,
+        immediate: when(data, random.next() & 1) as u8,
+    }
+}
+
+/// Headers that we write, read by the Rust: it has no writer of its own here.
+pub fn compare_written(seed: u64, count: u64) -> (u64, u64) {
+    let (mut tally, mut random) = (Tally::new("headers written", count), Random::new(seed));
+    while tally.wants() {
+        let f = written(&mut random);
+        let least = match f.kind {
+            2 | 6 => 40,
+            0 | 1 => 88,
+            _ => 56,
+        };
+        let len = least + if random.once_in(2) { random.below(4) } else { random.below(1_400) };
+        let (key1, key2, mut packet) = (random.array(), random.array(), random.bytes(len));
+        let plain = packet.clone();
+        let number = ffi::header_write(&mut packet, &key1, &key2, &f);
+        let read = match rust(&Live { key1, key2, packet: packet.clone() }) {
+            Answer::Read { fields, key, .. } => (0, fields, key),
+            Answer::Refused(number) => (number, [0; 11], Vec::new()),
+        };
+        let at = if matches!(f.kind, 0 | 1) { 32 } else { 0 };
+        let given = [f.kind, f.version, f.network, f.fragment, f.count, f.immediate].map(|b| b as u64);
+        let rest = [f.number as u64, f.destination, f.source, f.token, at as u64];
+        let put = (number, std::array::from_fn(|i| if i < 6 { given[i] } else { rest[i - 6] }), plain[at..2 * at].to_vec());
+        tally.compare(0, &read, &put, || format!("{f:?} key1 {} key2 {} packet {}", hex(&key1), hex(&key2), hex(&plain)));
+    }
+    tally.close(&[0])
 }

@@ -19,7 +19,14 @@ fn number(word: Option<String>) -> u64 {
 
 fn compare(seed: u64, count: u64) -> i32 {
     println!("oracle: seed {seed}, at least {count} comparisons of each part");
-    let parts = [headers::compare, blocks::compare, written::compare, acks::compare, reassembly::compare];
+    let parts = [
+        headers::compare,
+        headers::compare_written,
+        blocks::compare,
+        written::compare,
+        acks::compare,
+        reassembly::compare,
+    ];
     let (mut all, mut wrong) = (0, 0);
     for part in parts {
         let (done, differ) = part(seed, count);

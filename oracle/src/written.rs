@@ -1,12 +1,13 @@
-//! Blocks written: the Rust's Block::serialize beside strawhub_block_write, over the types that it can write.
+//! Blocks written: the Rust's Block::serialize beside strawhub_block_write; types that it cannot write, it reads.
 use crate::{
-    blocks::{shape, Shape},
+    blocks::{shape, shape_of, Shape},
     tally::Tally,
 };
-use oracle::{ffi, inputs::hex, message::Block, random::Random};
+use oracle::{ffi, inputs::hex, message::Block, random::Random, runtime::Rt};
 use std::net::{IpAddr, Ipv4Addr, Ipv6Addr, SocketAddr};
 
 const TYPES: [u8; 7] = [0, 6, 12, 13, 15, 16, 254];
+const ONLY_READ: [u8; 8] = [1, 4, 5, 17, 18, 19, 20, 21];
 const FILL: u8 = 0xa5;
 
 /// The Rust's block for a shape.
@@ -83,13 +84,46 @@ fn random_shape(random: &mut Random) -> Shape {
     }
 }
 
+/// A block of a type that the Rust only reads.
+fn shape_to_read(random: &mut Random) -> Shape {
+    let kind = random.pick(&ONLY_READ);
+    let words: [u64; 3] = [random.next(), random.next() & 0xffff_ffff, random.next() & 0xffff_ffff];
+    let more = 1 + body(random, 65_520);
+    match kind {
+        1 => {
+            let field = |i: usize| words[i % 2] >> (4 * i) & if i < 4 { 255 } else { 65_535 };
+            shape(1, &std::array::from_fn::<u64, 8, _>(field), &[])
+        }
+        4 => shape(4, &[random.pick(&[1, 3, 10, 18, 26]), words[1], words[2]], &random.bytes(more)),
+        5 => shape(5, &[words[0] & 127, words[0] >> 7 & 1, words[1]], &random.bytes(more)),
+        17 => shape(17, &[words[1], words[0]], &[]),
+        20 => shape(20, &[words[1]], &[]),
+        21 => shape(21, &[words[1] & 255], &[]),
+        _ => shape(kind, &[], &random.bytes(more - 1)),
+    }
+}
+
+fn written(tally: &mut Tally, random: &mut Random) {
+    let s = random_shape(random);
+    let theirs = rust(&s, random.below(4));
+    let mine = ours(&s, theirs.2.len());
+    tally.compare(0, &theirs, &mine, || format!("type {} fields {:?} bytes {}", s.kind, s.fields, hex(&s.bytes)));
+}
+
+fn read_back(tally: &mut Tally, random: &mut Random) {
+    let s = shape_to_read(random);
+    let (number, length, room) = ours(&s, 65_538);
+    let read = Block::parse::<Rt>(&room[..length as usize]).map(|blocks| blocks.iter().map(shape_of).collect::<Vec<_>>());
+    tally.compare(0, &(0, read), &(number, Ok(vec![Some(s.clone())])), || format!("{s:?} written"));
+}
+
 pub fn compare(seed: u64, count: u64) -> (u64, u64) {
     let (mut tally, mut random) = (Tally::new("blocks written", count), Random::new(seed));
     while tally.wants() {
-        let s = random_shape(&mut random);
-        let theirs = rust(&s, random.below(4));
-        let mine = ours(&s, theirs.2.len());
-        tally.compare(0, &theirs, &mine, || format!("type {} fields {:?} bytes {}", s.kind, s.fields, hex(&s.bytes)));
+        written(&mut tally, &mut random);
+        if random.once_in(4) {
+            read_back(&mut tally, &mut random);
+        }
     }
     tally.close(&[0])
 }
