@@ -1,6 +1,7 @@
-# make list: the blocks of a payload. make test: the format, then the whole gate. make bench: both sides timed in one run.
+# make list: the blocks of a payload. make test: the format, a short round of each test below, then the whole gate.
+# make oracle: the original Rust beside the library, millions of calls. make bench: both sides timed in one run.
 # make calls: the C calls, and a short round of any bytes. make fuzz: ten million. make rust: the crate's tests.
-.PHONY: list test bench calls fuzz rust
+.PHONY: list test oracle bench calls fuzz rust
 
 # a sample unless FILE names a payload
 FILE = crates/lister/stdin
@@ -15,7 +16,11 @@ list:
 test:
 	rt fmt --check
 	tests/c/run
+	oracle/run '' 1 500000
 	rt ci
+
+oracle:
+	oracle/run
 
 bench:
 	bench/run

@@ -11,32 +11,26 @@ struct Entry {
 }
 
 #[repr(C)]
-#[derive(Clone, Copy, Default, PartialEq, Debug)]
-struct Answer {
-    number: u32,
-    place: usize,
-    count: usize,
+#[derive(Clone, Copy, PartialEq, Debug)]
+struct Outcome {
+    number: u64,
+    value: u64,
 }
 
-// The kit returns a long struct as x86-64's convention has it: through a pointer that comes first.
 extern "C" {
-    fn list_blocks(answer: *mut Answer, payload: *const u8, len: usize, list: *mut Entry, room: usize) -> *mut Answer;
-    fn plain_walk(answer: *mut Answer, payload: *const u8, len: usize, list: *mut Entry, room: usize);
+    fn strawhub_block_list(payload: *const u8, len: usize, list: *mut Entry, room: usize) -> Outcome;
+    fn plain_walk(payload: *const u8, len: usize, list: *mut Entry, room: usize) -> Outcome;
 }
 
-fn proved(p: &[u8], list: &mut [Entry]) -> Answer {
-    let mut a = Answer::default();
-    unsafe { list_blocks(&mut a, p.as_ptr(), p.len(), list.as_mut_ptr(), list.len()) };
-    a
+fn proved(p: &[u8], list: &mut [Entry]) -> Outcome {
+    unsafe { strawhub_block_list(p.as_ptr(), p.len(), list.as_mut_ptr(), list.len()) }
 }
 
-fn plain(p: &[u8], list: &mut [Entry]) -> Answer {
-    let mut a = Answer::default();
-    unsafe { plain_walk(&mut a, p.as_ptr(), p.len(), list.as_mut_ptr(), list.len()) };
-    a
+fn plain(p: &[u8], list: &mut [Entry]) -> Outcome {
+    unsafe { plain_walk(p.as_ptr(), p.len(), list.as_mut_ptr(), list.len()) }
 }
 
-type Lists = fn(&[u8], &mut [Entry]) -> Answer;
+type Lists = fn(&[u8], &mut [Entry]) -> Outcome;
 
 fn time(f: Lists, payloads: &[Vec<u8>], list: &mut [Entry]) -> f64 {
     let start = Instant::now();

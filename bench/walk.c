@@ -1,9 +1,8 @@
-/* A plain C walk over a payload's blocks that keeps the promise of list_blocks: it judges first, then fills. */
-#include <stddef.h>
-#include <stdint.h>
+/* A plain C walk over a payload's blocks that keeps the promise of strawhub_block_list: it judges first, then fills. */
+#include "../include/strawhub.h"
 
-struct entry { size_t place; uint8_t kind; uint16_t size; };
-struct answer { uint32_t number; size_t place; size_t count; };
+typedef struct strawhub_entry entry;
+typedef struct strawhub_outcome outcome;
 
 static int listed(uint8_t t)
 {
@@ -11,7 +10,7 @@ static int listed(uint8_t t)
 }
 
 /* 0 and where the block at a place ends, or the number of the refusal. */
-static inline uint32_t extent(const uint8_t *p, size_t n, size_t at, struct entry *e, size_t *next)
+static inline uint32_t extent(const uint8_t *p, size_t n, size_t at, entry *e, size_t *next)
 {
     if (n < 3 || n - 3 < at) return 1;
     size_t body = at + 3, left = n - body, size = p[at + 1] * 256u + p[at + 2], need = size;
@@ -54,23 +53,22 @@ static inline uint32_t extent(const uint8_t *p, size_t n, size_t at, struct entr
     return 0;
 }
 
-void plain_walk(struct answer *a, const uint8_t *p, size_t n, struct entry *list, size_t room)
+outcome plain_walk(const uint8_t *p, size_t n, entry *list, size_t room)
 {
     size_t at = 0, count = 0, over = 0, next = 0;
-    struct entry e;
-    *a = (struct answer){0, 0, 0};
+    entry e;
     do {
         uint32_t number = extent(p, n, at, &e, &next);
-        if (number) { a->number = number; a->place = at; return; }
+        if (number) return (outcome){number, at};
         if (count == room) over = at;
         count++;
         at = next;
     } while (at < n);
-    if (count > room) { a->number = 10; a->place = over; return; }
+    if (count > room) return (outcome){STRAWHUB_LIST_FULL, over};
     at = 0;
     for (size_t i = 0; i < count; i++) {
         extent(p, n, at, &list[i], &next);
         at = next;
     }
-    a->count = count;
+    return (outcome){STRAWHUB_DONE, count};
 }

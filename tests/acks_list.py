@@ -1,6 +1,6 @@
 """Writes the list that acks_check replays: python3 tests/acks_list.py ORACLE > crates/acks_check/stdin
 
-ORACLE is the line driver over the original Rust (commands `ack new`, `ack reg N`, `ack rep`). Lines:
+ORACLE is target/oracle/release/oracle, which oracle/build makes from the original Rust. Lines:
 
     new                            a new tracker
     start N                        a tracker that no call made: N is the highest, and alone marked
@@ -50,7 +50,7 @@ class Domain:
 
 class List:
     def __init__(self, oracle):
-        self.oracle = subprocess.Popen([oracle], stdin=subprocess.PIPE, stdout=subprocess.PIPE, text=True)
+        self.oracle = subprocess.Popen([oracle, "acks"], stdin=subprocess.PIPE, stdout=subprocess.PIPE, text=True)
         self.out = []
 
     def rust(self, command):

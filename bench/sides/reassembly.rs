@@ -1,0 +1,111 @@
+//! A piece taken, over whole messages. The Rust's time has the making of the Vec that its call takes and the dropping of the
+//! message that it gives; neither side's state, room or buffer is cleared between messages.
+use crate::Row;
+use oracle::{
+    ffi::Store,
+    fragment::FragmentHandler,
+    i2np::MessageType,
+    primitives::MessageId,
+    random::Random,
+    runtime::{NoMetrics, Rt},
+};
+use std::{hint::black_box, rc::Rc};
+
+/// A message's piece on its way.
+struct Piece {
+    id: u32,
+    number: u8,
+    last: bool,
+    place: usize,
+    bytes: Vec<u8>,
+}
+
+#[derive(Clone, Copy)]
+enum Order {
+    Up,
+    Down,
+    Mixed,
+}
+
+/// The pieces of some messages: each message's in an order, the messages in turn.
+fn pieces(lengths: &[usize], order: Order, open: u32) -> Vec<Piece> {
+    let mut random = Random::new(lengths.len() as u64);
+    let mut numbers: Vec<usize> = (0..lengths.len()).collect();
+    match order {
+        Order::Up => (),
+        Order::Down => numbers.reverse(),
+        Order::Mixed => random.shuffle(&mut numbers),
+    }
+    let mut all = Vec::new();
+    for number in numbers {
+        for id in 1..=open {
+            let (place, bytes) = (lengths[..number].iter().sum(), random.bytes(lengths[number]));
+            all.push(Piece { id, number: number as u8, last: number + 1 == lengths.len(), place, bytes });
+        }
+    }
+    all
+}
+
+fn rust(handler: &mut FragmentHandler<Rt>, p: &Piece) -> bool {
+    let id = MessageId::from(p.id);
+    let message = match p.number {
+        0 => handler.first_fragment(MessageType(20), id, 9, p.bytes.to_vec()),
+        n => handler.follow_on_fragment(id, n, p.last, p.bytes.to_vec()),
+    };
+    black_box(message).is_some()
+}
+
+fn ours(store: &mut Store, p: &Piece) -> bool {
+    let reply = match p.number {
+        0 => store.first(p.id, 20, 9, 0, &p.bytes),
+        n => store.follow_on(p.id, n, p.last, 0, &p.bytes),
+    };
+    black_box(reply).number == 60
+}
+
+fn row(name: String, lengths: &[usize], order: Order, open: u32) -> Row {
+    let all = Rc::new(pieces(lengths, order, open));
+    let times = (2_000 / all.len()).max(1);
+    let (a, b, c) = (all.clone(), all.clone(), all.clone());
+    let (mut handler, mut store, mut buffer) = (FragmentHandler::new(NoMetrics), Store::new(), vec![0u8; 65_535]);
+    let done = open as usize * times;
+    Row {
+        name,
+        rust: Box::new(move || {
+            let finished: usize = (0..times).map(|_| a.iter().filter(|p| rust(&mut handler, p)).count()).sum();
+            assert_eq!(finished, done);
+        }),
+        ours: Box::new(move || {
+            let finished: usize = (0..times).map(|_| b.iter().filter(|p| ours(&mut store, p)).count()).sum();
+            assert_eq!(finished, done);
+        }),
+        copy: Some(Box::new(move || {
+            for p in (0..times).flat_map(|_| c.iter()) {
+                buffer[p.place..p.place + p.bytes.len()].copy_from_slice(black_box(&p.bytes));
+                black_box(&buffer);
+            }
+        })),
+        operations: times * all.len(),
+    }
+}
+
+pub fn rows() -> Vec<Row> {
+    let mut largest = vec![1_500; 43];
+    largest.push(1_035);
+    let shapes = [vec![64; 2], vec![1_439; 2], vec![511; 8], vec![64; 128], vec![511; 128], largest];
+    let orders = [
+        ("in order", Order::Up, 1),
+        ("reversed", Order::Down, 1),
+        ("mixed", Order::Mixed, 1),
+        ("16 messages mixed", Order::Mixed, 16),
+    ];
+    let mut rows = Vec::new();
+    for lengths in &shapes {
+        let (count, total) = (lengths.len(), lengths.iter().sum::<usize>());
+        for (word, order, open) in orders {
+            let name = format!("a piece of {} bytes, {count} in a message of {total}, {word}", lengths[0]);
+            rows.push(row(name, lengths, order, open));
+        }
+    }
+    rows
+}
