@@ -12,11 +12,11 @@ class Headers:
         self.calls, self.judge, self.rng = calls, judge, rng
 
     def keystream(self, key, counter, nonce):
-        lent = [Lent(key), Lent(nonce), Lent(self.rng.randbytes(64))]
-        k, n, out = lent
+        k, n, out = Lent(key), Lent(nonce), Lent(self.rng.randbytes(64))
         self.calls.keystream(k.address, counter, n.address, out.address)
         stands = k.stays() and n.stays() and out.outside(64)
         self.judge.compare(out.content(), model.chacha20(key, counter, nonce), stands, "keystream", key, counter, nonce)
+        return out.content()
 
     def read(self, packet, key1, key2):
         p, k1, k2, out = Lent(packet), Lent(key1), Lent(key2), Lent(self.rng.randbytes(88))
@@ -55,7 +55,16 @@ def live():
 
 
 def rfc8439(h):
-    """The RFC's own vectors are in crates/keystream_check; here its words around every carry."""
+    """The RFC's vectors: key, counter, nonce, plain and masked text."""
+    for line in open(ROOT / "crates/keystream_check/stdin"):
+        name, key, counter, nonce, plain, text = line.split()
+        key, nonce, plain = map(bytes.fromhex, (key, nonce, plain))
+        stream = b"".join(h.keystream(key, int(counter) + i, nonce) for i in range((len(plain) + 63) // 64))
+        h.judge.compare(bytes(p ^ s for p, s in zip(plain, stream)).hex(), text, True, "RFC 8439", name)
+
+
+def carries(h):
+    """Keys, counters and nonces of all zeros and all ones."""
     for key in (bytes(32), b"\xff" * 32, bytes(range(32))):
         for counter in (0, 1, 2, 0x7FFFFFFF, 0x80000000, 0xFFFFFFFE, 0xFFFFFFFF):
             for nonce in (bytes(12), b"\xff" * 12, bytes(range(12))):
@@ -135,6 +144,7 @@ def damaged(h, count):
 def run(calls, judge, rng, whole):
     h = Headers(calls, judge, rng)
     rfc8439(h)
+    carries(h)
     for _ in range(100):
         h.keystream(rng.randbytes(32), rng.getrandbits(32), rng.randbytes(12))
     every_type(h, LENGTHS if whole else (39, 40, 63, 64))

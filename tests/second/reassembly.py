@@ -1,0 +1,281 @@
+"""Stores: the calls beside tests/reassembly_model.py."""
+import itertools
+
+from lent import Lent
+from reassembly_model import Store
+
+RECORD, ROOM, MESSAGE = 8576, 1048560, 65535
+LATEST = 2 ** 64 - 1
+NUMBERS = {"first": (0, 50, 52, 53, 54, 55, 56, 60), "follow_on": (0, 50, 51, 52, 53, 54, 55, 56, 60)}
+
+
+class Pair:
+    """A store of the library's and one of the model's that are handed the same pieces."""
+
+    def __init__(self, calls, judge, rng):
+        self.calls, self.judge, self.rng = calls, judge, rng
+        self.noise = rng.randbytes(MESSAGE + 100)
+        tail = rng.randbytes(rng.choice((0, 0, 1, 40)))
+        self.record, self.room = Lent(rng.randbytes(RECORD) + tail), Lent(rng.randbytes(1) * ROOM + tail)
+        self.start(new=True)
+
+    def start(self, new):
+        """An empty store again: by strawhub_store_new, or as zeros over whatever the room holds."""
+        self.model, self.told = Store(), []
+        if not new:
+            self.record = Lent(bytes(RECORD) + self.record.content()[RECORD:])
+            return
+        got = self.calls.store_new(*self.record.slice())
+        self.judge.compare(got, 0, self.record.outside(RECORD) and self.room.stays(), "store_new", self.record.before)
+        self.record.keep()
+
+    def state_stands(self, number):
+        """A refusal leaves record and room whole, an acceptance what is past their ends; then both are looked at anew."""
+        if number not in (0, 60):
+            return self.record.stays() and self.room.stays()
+        stands = self.record.outside(RECORD) and self.room.outside(ROOM)
+        self.record.keep()
+        self.room.keep()
+        return stands
+
+    def first(self, ident, kind, expires, second, data, size=MESSAGE):
+        wanted = self.model.first(ident, kind, expires, second, data, size)
+        return self.piece("first", wanted, (ident, kind, expires, second), data, size)
+
+    def follow_on(self, ident, number, last, second, data, size=MESSAGE):
+        wanted = self.model.follow_on(ident, number, last != 0, second, data, size)
+        return self.piece("follow_on", wanted, (ident, number, last, second), data, size)
+
+    def piece(self, call, wanted, numbers, data, size):
+        out, lent = Lent(self.noise[:size]), Lent(data)
+        got = getattr(self.calls, "store_" + call)(*self.record.slice(), *self.room.slice(), *out.slice(), *numbers, *lent.slice())
+        number, message = wanted
+        kind, expires, whole = message or (0, 0, b"")
+        stands = self.state_stands(number) and lent.stays() and out.start_is(whole)
+        answer = (got.number, got.kind, got.expires, got.length)
+        self.judge.compare(answer, (number, kind, expires, len(whole)), stands, "store_" + call, self.told, call, *numbers, data, size)
+        self.remember(call, *numbers, data, size)
+        return number
+
+    def sweep(self, second):
+        self.model.sweep(second)
+        got = self.calls.store_sweep(*self.record.slice(), second)
+        self.judge.compare(got, 0, self.record.outside(RECORD) and self.room.stays(), "store_sweep", self.told, second)
+        self.record.keep()
+        self.remember("sweep", second)
+
+    def remember(self, *call):
+        self.told.append("(" + " ".join(w.hex() if isinstance(w, bytes) else str(w) for w in call) + ")")
+
+    def cut(self, ident, pieces, i, second=0, size=MESSAGE):
+        """Piece i of a message: a head and its pieces' bytes."""
+        head, parts = pieces
+        if i == 0:
+            return self.first(ident, *head, second, parts[0], size)
+        return self.follow_on(ident, i, int(i == len(parts) - 1), second, parts[i], size)
+
+    def empty(self):
+        """No message is open: sixteen new ones are kept, the seventeenth is not; then they are swept away."""
+        self.judge.compare(len(self.model.open), 0, True, "messages open at the end", self.told)
+        for _ in range(2):
+            idents = self.rng.sample(range(1 << 32), 17)
+            answers = [self.first(ident, 1, 2, 100, b"piece") for ident in idents]
+            self.judge.compare(answers, [0] * 16 + [52], True, "sixteen new messages and one more")
+            self.sweep(129)
+            self.judge.compare(self.first(idents[16], 1, 2, 100, b"piece"), 52, True, "swept a second early")
+            self.sweep(130)
+
+
+def message(rng, most=12):
+    """A head and 2 to `most` pieces."""
+    lengths = [rng.choice((1, 2, 5, 40)) for _ in range(rng.randrange(2, most + 1))]
+    return (rng.randrange(256), rng.getrandbits(32)), [rng.randbytes(n) for n in lengths]
+
+
+def changed(rng, pieces, i):
+    """A piece that is not the message's: other bytes, another length, number, flag or head."""
+    (kind, expires), parts = pieces
+    data, number, last = parts[i], i, i == len(parts) - 1
+    how = rng.randrange(6)
+    if how == 0:
+        data = data[:-1] + bytes([data[-1] ^ 1 << rng.randrange(8)])
+    elif how == 1:
+        data = data + b"\0" if rng.random() < 0.5 else data[:-1]
+    elif how == 2:
+        kind ^= 1
+    elif how == 3:
+        expires ^= 1 << rng.randrange(32)
+    elif how == 4:
+        last = not last
+    else:
+        number = rng.choice((0, number + 1, len(parts), len(parts) + 1, 127, 128, 255, rng.randrange(256)))
+    return (kind, expires), data, number, last
+
+
+def mixture(pair, steps, ids):
+    """Pieces of messages under a few ids, some wrong, some again, with buffers of any length; sweeps; the clock mostly rises."""
+    rng, second = pair.rng, pair.rng.choice((0, 1000, LATEST - 200))
+    messages = {rng.choice((i, i % 16 << 28, (1 << 32) - 1 - i)): message(rng) for i in range(ids)}
+    for _ in range(steps):
+        ident = rng.choice(list(messages))
+        pieces = messages[ident]
+        i = rng.randrange(len(pieces[1]))
+        second = min(LATEST, max(0, second + rng.choice((0, 0, 0, 1, 2, -1))))
+        whole = sum(map(len, pieces[1]))
+        size = rng.choice((MESSAGE, whole, whole, whole - 1, 0, whole + 3))
+        if rng.random() < 0.15:
+            (kind, expires), data, number, last = changed(rng, pieces, i)
+            if i == 0 and number == 0:
+                pair.first(ident, kind, expires, second, data, size)
+            else:
+                pair.follow_on(ident, number, rng.choice((1, 2, 255)) if last else 0, second, data, size)
+        elif rng.random() < 0.01:
+            pair.sweep(min(LATEST, max(0, second + rng.choice((-1, 0, 20, 29, 30, 31)))))
+        elif pair.cut(ident, pieces, i, second, size) == 60:
+            messages[ident] = message(rng)
+    for age in (29, 30):
+        pair.sweep(min(LATEST, second + age))
+    pair.sweep(LATEST)
+
+
+def any_order(pair, count, length, repeats):
+    """Up to sixteen messages of count pieces in one shuffled order, repeats of held pieces among them: each out once, none left."""
+    rng = pair.rng
+    messages = {rng.getrandbits(32): ((rng.randrange(256), 7), [rng.randbytes(length) for _ in range(count)]) for _ in range(rng.randrange(1, 17))}
+    order = [(ident, i) for ident in messages for i in range(count)]
+    rng.shuffle(order)
+    finished, held = 0, []
+    for ident, i in order:
+        finished += pair.cut(ident, messages[ident], i) == 60
+        held.append((ident, i))
+        again, j = rng.choice(held)
+        if again in pair.model.open and rng.random() < repeats:
+            pair.cut(again, messages[again], j)
+    pair.judge.compare(finished, len(messages), True, "messages finished", pair.told)
+
+
+def short_schedules(pair, length):
+    """Every order of a few pieces of one message, right and wrong ones."""
+    pieces = [("f", b"a"), ("f", b"b"), (1, 0, b"c"), (1, 1, b"c"), (2, 0, b"d"), (2, 1, b"d"), (3, 1, b"e")]
+    for schedule in itertools.product(pieces, repeat=length):
+        pair.start(new=False)
+        for what, *rest in schedule:
+            if what == "f":
+                pair.first(9, 20, 5, 0, rest[0], 3)
+            else:
+                pair.follow_on(9, what, rest[0], 0, rest[1], 3)
+
+
+def limits(pair):
+    """Lengths 0, 1, 1,500, 1,501; every number; 65,535 bytes and one more; 128 pieces; each before what comes later in the order."""
+    rng = pair.rng
+    for size in (0, 1, 1500, 1501, 65535, 65536):
+        pair.start(new=True)
+        data = (rng.randbytes(1500) * 44)[:size]
+        pair.first(1, 1, 1, 0, data)
+        pair.first(1, 1, 1, 0, data)
+        for number in range(256):
+            pair.follow_on(2, number, 0, 0, data)
+            pair.follow_on(3, number, 255, 0, data, 0)
+    for extra in (0, 1):
+        for order in (1, -1):
+            pair.start(new=True)
+            parts = [rng.randbytes(1500) for _ in range(43)] + [rng.randbytes(1000), rng.randbytes(35 + extra)]
+            for i in range(45)[::order]:
+                pair.cut(5, ((1, 2), parts), i, size=MESSAGE - 1)
+                pair.cut(5, ((1, 2), parts), i, size=MESSAGE)
+    pair.start(new=True)
+    for i in (127, 0, *range(126, 0, -1)):
+        pair.cut(6, ((255, (1 << 32) - 1), [bytes([n]) * 511 for n in range(128)]), i)
+    pair.empty()
+
+
+def full(pair):
+    """Sixteen open: a seventeenth is refused, repeats and clashes keep their numbers, a place that was freed is used again."""
+    pair.start(new=True)
+    for i in range(16):
+        pair.follow_on(i, 1, 1, i, b"end")
+    for _ in range(40):
+        i = pair.rng.randrange(18)
+        pair.follow_on(i, 1, 1, i, pair.rng.choice((b"end", b"und")))
+        pair.follow_on(i, 2, 0, i, b"x")
+        pair.first(99, 1, 1, 1, pair.rng.choice((b"", b"a")))
+        pair.first(i, i, i, 50, b"start ", pair.rng.choice((8, 9)))
+    for second in range(28, 50):
+        pair.sweep(second)
+        pair.first(second, 1, 1, second, b"new")
+    pair.sweep(LATEST)
+    pair.empty()
+
+
+def sweeps(pair):
+    """Ages around 30, at both ends of the clock; the opening piece's second counts, not a later one's."""
+    for opened in (0, 1, 29, 30, 1000, LATEST - 31, LATEST - 30, LATEST - 29, LATEST):
+        for now in {0, LATEST, *(min(LATEST, max(0, opened + age)) for age in (-31, -30, -29, -1, 0, 1, 28, 29, 30, 31))}:
+            pair.start(new=False)
+            pair.follow_on(3, 1, 1, opened, b"b")
+            pair.first(4, 1, 1, min(LATEST, opened + 1), b"b")
+            pair.sweep(now)
+            pair.first(3, 1, 1, now, b"a")
+            pair.follow_on(4, 1, 1, now, b"a")
+
+
+def short_loans(calls, judge, rng, sizes):
+    """59 comes first wherever record or room is short, and nothing is written; a sweep answers 0."""
+    for record_size, room_size in sizes:
+        record, room, out = Lent(rng.randbytes(record_size)), Lent(rng.randbytes(1) * room_size), Lent(rng.randbytes(200))
+        for length in (0, 5, 1501):
+            data = Lent(bytes(length))
+            got = [calls.store_first(*record.slice(), *room.slice(), *out.slice(), 1, 1, 1, 0, *data.slice()),
+                   calls.store_follow_on(*record.slice(), *room.slice(), *out.slice(), 1, 0, 1, 0, *data.slice())]
+            answers = [(r.number, r.kind, r.expires, r.length) for r in got]
+            stands = all(lent.stays() for lent in (record, room, out, data))
+            judge.compare(answers, [(59, 0, 0, 0)] * 2, stands, "store calls on a short loan", record_size, room_size, length)
+        if record_size < RECORD:
+            got = (calls.store_new(*record.slice()), calls.store_sweep(*record.slice(), 1000))
+            judge.compare(got, (59, 0), record.stays(), "store_new and store_sweep on a short record", record_size)
+
+
+def forged(pair, count):
+    """Records that no call made: every call returns with a number of 01's and writes no byte but what it is lent."""
+    calls, rng, judge = pair.calls, pair.rng, pair.judge
+    real = pair.record.content()[:RECORD]
+    for _ in range(count):
+        at, n = rng.randrange(RECORD), rng.choice((1, 4, 24, 400))
+        content = rng.choice((rng.randbytes(RECORD), b"\xff" * RECORD, (real[:at] + rng.randbytes(n) + real[at + n:])[:RECORD]))
+        pair.record = Lent(content)
+        ident = int.from_bytes(content[24 * rng.randrange(16):][:4], "little") if rng.random() < 0.8 else rng.getrandbits(32)
+        for _ in range(4):
+            forged_piece(calls, judge, rng, pair, rng.choice((ident, rng.getrandbits(32))))
+        got = calls.store_sweep(*pair.record.slice(), rng.choice((0, 30, LATEST, rng.getrandbits(64))))
+        judge.compare(got, 0, pair.record.outside(RECORD) and pair.room.stays(), "store_sweep on a forged record", content)
+
+
+def forged_piece(calls, judge, rng, pair, ident):
+    data, out = Lent(rng.randbytes(rng.choice((0, 1, 20, 1500, 1501)))), Lent(pair.noise[:rng.choice((0, 100, MESSAGE))])
+    call, before = rng.choice(("first", "follow_on")), bytes(pair.record.content())
+    numbers = (ident, rng.randrange(256), rng.randrange(2), rng.getrandbits(64))
+    got = getattr(calls, "store_" + call)(*pair.record.slice(), *pair.room.slice(), *out.slice(), *numbers, *data.slice())
+    written = got.length if got.number == 60 else 0
+    stands = pair.state_stands(got.number) and data.stays() and written <= out.size and out.outside(written)
+    judge.compare(got.number in NUMBERS[call], True, stands, f"store_{call} on a forged record", before, *numbers, data.content(), out.size)
+
+
+def run(calls, judge, rng, whole):
+    pair = Pair(calls, judge, rng)
+    limits(pair)
+    full(pair)
+    sweeps(pair)
+    short_loans(calls, judge, rng, ((0, ROOM), (RECORD - 1, ROOM), (RECORD, 0), (RECORD, ROOM - 1), (RECORD + 9, 100), (0, 0), (RECORD - 1, ROOM - 1)))
+    pair.start(new=True)
+    short_schedules(pair, 5 if whole else 3)
+    for count, length in ((2, 64), (2, 1500), (8, 511), (43, 1500), (128, 64), (128, 511)):
+        pair.start(new=True)
+        any_order(pair, count, length, 0.2)
+        pair.empty()
+    for _ in range(60 if whole else 4):
+        pair.start(new=rng.random() < 0.5)
+        mixture(pair, 2000 if whole else 400, rng.choice((3, 17, 24)))
+        pair.empty()
+    mixture(pair, 300, 20)
+    forged(pair, 4000 if whole else 120)
