@@ -93,7 +93,7 @@ def message(rng, most=12):
 
 
 def changed(rng, pieces, i):
-    """A piece that is not the message's: other bytes, another length, number, flag or head."""
+    """A piece that is not the message's: other bytes, another length, flag, head or number."""
     (kind, expires), parts = pieces
     data, number, last = parts[i], i, i == len(parts) - 1
     how = rng.randrange(6)
@@ -102,14 +102,45 @@ def changed(rng, pieces, i):
     elif how == 1:
         data = data + b"\0" if rng.random() < 0.5 else data[:-1]
     elif how == 2:
-        kind ^= 1
-    elif how == 3:
-        expires ^= 1 << rng.randrange(32)
-    elif how == 4:
         last = not last
+    elif how == 3:
+        kind, number, data = kind ^ 1 << rng.randrange(8), 0, parts[0]
+    elif how == 4:
+        expires, number, data = expires ^ 1 << rng.randrange(32), 0, parts[0]
     else:
-        number = rng.choice((0, number + 1, len(parts), len(parts) + 1, 127, 128, 255, rng.randrange(256)))
+        number = rng.choice((number + 1, len(parts), len(parts) + 1, 127, 128, 255, rng.randrange(256)))
     return (kind, expires), data, number, last
+
+
+def spoilt(data):
+    """The bytes one shorter, one longer, and with each byte changed."""
+    return data[:-1], data + b"\0", *(data[:at] + bytes([data[at] ^ 128]) + data[at + 1:] for at in range(len(data)))
+
+
+def other_heads(pair, data):
+    """The first piece with each bit of its head changed."""
+    for i in range(8):
+        pair.first(1, 20 ^ 1 << i, 900, 0, data)
+    for i in range(32):
+        pair.first(1, 20, 900 ^ 1 << i, 0, data)
+
+
+def clashes(pair):
+    """Held pieces 0, 1 and 3, the last, each with one thing changed; then a piece of every number but the missing 2."""
+    pair.start(new=True)
+    parts = [pair.rng.randbytes(n) for n in (7, 1, 40, 300)]
+    for i in (0, 1, 3):
+        pair.cut(1, ((20, 900), parts), i)
+        other_heads(pair, parts[0])
+        for data in spoilt(parts[i]):
+            pair.follow_on(1, i, int(i == 3), 0, data) if i else pair.first(1, 20, 900, 0, data)
+    pair.follow_on(1, 1, 1, 0, parts[1])
+    for number in range(256):
+        pair.follow_on(1, number, 1, 0, b"z")
+        if number != 2:
+            pair.follow_on(1, number, 0, 0, b"z")
+    pair.cut(1, ((20, 900), parts), 2)
+    pair.empty()
 
 
 def mixture(pair, steps, ids):
@@ -125,7 +156,7 @@ def mixture(pair, steps, ids):
         size = rng.choice((MESSAGE, whole, whole, whole - 1, 0, whole + 3))
         if rng.random() < 0.15:
             (kind, expires), data, number, last = changed(rng, pieces, i)
-            if i == 0 and number == 0:
+            if number == 0:
                 pair.first(ident, kind, expires, second, data, size)
             else:
                 pair.follow_on(ident, number, rng.choice((1, 2, 255)) if last else 0, second, data, size)
@@ -265,6 +296,7 @@ def run(calls, judge, rng, whole):
     pair = Pair(calls, judge, rng)
     limits(pair)
     full(pair)
+    clashes(pair)
     sweeps(pair)
     short_loans(calls, judge, rng, ((0, ROOM), (RECORD - 1, ROOM), (RECORD, 0), (RECORD, ROOM - 1), (RECORD + 9, 100), (0, 0), (RECORD - 1, ROOM - 1)))
     pair.start(new=True)
