@@ -1,5 +1,6 @@
-# make list: the blocks of a payload. make test: the format, then the whole gate. make bench: both sides timed in one run.
-.PHONY: list test bench
+# make list: the blocks of a payload. make test: the format, the second program, then the whole gate. make bench: both sides timed in one run.
+# make second: the library beside an independent program of the rules; WORDS="-l" for the long round.
+.PHONY: list test second bench
 
 # a sample unless FILE names a payload
 FILE = crates/lister/stdin
@@ -13,7 +14,11 @@ list:
 
 test:
 	rt fmt --check
+	tests/second/run
 	rt ci
+
+second:
+	@tests/second/run $(WORDS)
 
 bench:
 	bench/run

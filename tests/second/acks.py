@@ -3,17 +3,18 @@ import itertools
 
 import acks_model as model
 from lent import Lent, numbers
+from shrink import Remembered
 
 TRACKER = 259
 TOP = 4294967295
 
 
-class Pair:
+class Pair(Remembered):
     """A tracker of the library's and one of the model's that are told the same numbers."""
 
     def __init__(self, calls, judge, rng):
         self.calls, self.judge, self.rng = calls, judge, rng
-        self.model, self.told = model.Tracker(), []
+        self.model, self.told, self.shrunk = model.Tracker(), [], False
         tail = rng.randbytes(rng.choice((0, 0, 1, 30)))
         if rng.random() < 0.5:
             self.record = Lent(bytes(TRACKER) + tail)
@@ -24,25 +25,37 @@ class Pair:
     def changed(self, got, wanted, call, *inputs):
         """A call that may write the record: a refusal leaves it whole, an acceptance what is past its 259 bytes."""
         stands = self.record.stays() if wanted else self.record.outside(TRACKER)
-        self.judge.compare(got, wanted, stands, call, *inputs)
+        self.judged(got, wanted, stands, call, *inputs)
         self.record.keep()
 
     def register(self, n):
+        self.remember("register", n)
         got = self.calls.tracker_register(*self.record.slice(), n)
-        self.changed(got, self.model.register(n), "tracker_register", self.told, n)
-        self.told.append(n)
+        self.changed(got, self.model.register(n), "tracker_register", self.told)
+
+    def climb(self, top):
+        """Registers every 255th number below top; what is below the window is never asked of again, so the model drops it."""
+        self.remember("climb", top)
+        wrong = 0
+        for n in range(255, top, 255):
+            wrong += self.calls.tracker_register(*self.record.slice(), n) != self.model.register(n)
+            if n % (255 << 14) == 0:
+                self.model.received &= set(self.model.window())
+        self.changed(wrong, 0, "registrations while climbing", self.told)
 
     def duplicate(self, n):
+        self.remember("duplicate", n)
         got = self.calls.tracker_duplicate(*self.record.slice(), n)
-        self.judge.compare(got, int(self.model.is_duplicate(n)), self.record.stays(), "tracker_duplicate", self.told, n)
+        self.judged(got, int(self.model.is_duplicate(n)), self.record.stays(), "tracker_duplicate", self.told)
 
     def report(self):
+        self.remember("report")
         out, pairs = Lent(self.rng.randbytes(24)), Lent(self.rng.randbytes(254))
         got = self.calls.tracker_report(*self.record.slice(), out.address, pairs.address)
         wanted, through, count, named = self.model.report()
         filled = bytes(named) + bytes(254 - len(named))
         stands = out.stays() and pairs.stays() if wanted else out.start_is(numbers([through, count, len(named)])) and pairs.start_is(filled)
-        self.judge.compare(got, wanted, stands and self.record.stays(), "tracker_report", self.told)
+        self.judged(got, wanted, stands and self.record.stays(), "tracker_report", self.told)
         if wanted == 0:
             self.named(through, count, bytes(named))
 
@@ -53,11 +66,12 @@ class Pair:
         self.judge.compare(got, received, True, "a report expanded", self.told)
 
     def ack_block(self, size):
+        self.remember("ack_block", size)
         room = Lent(self.rng.randbytes(size))
         got = self.calls.tracker_ack_block(*self.record.slice(), *room.slice())
         wanted, block = model.ack_block(self.model, size)
         stands = self.record.stays() and (room.stays() if wanted else room.start_is(block))
-        self.judge.compare((got.number, got.value), (wanted, 0 if wanted else len(block)), stands, "tracker_ack_block", self.told, size)
+        self.judged((got.number, got.value), (wanted, 0 if wanted else len(block)), stands, "tracker_ack_block", self.told)
 
     def ack_blocks(self):
         whole = len(model.ack_block(self.model, 300)[1] or b"")
@@ -135,21 +149,12 @@ def short_sequences(calls, judge, rng, numbers_of, length):
             pair.report()
 
 
-def climb(calls, judge, rng):
-    """To 4,294,967,295 by calls alone, then around it; marks below the window are never asked of again, so the model drops them."""
+def around_the_top(calls, judge, rng):
+    """At 4,294,967,295, reached by calls alone: numbers on both sides of the window's ends, and after the last number there is."""
     pair = Pair(calls, judge, rng)
-    record, register = pair.record.slice(), calls.tracker_register
-    n = 0
-    while n + 255 < TOP - 600:
-        n += 255
-        if register(*record, n) != pair.model.register(n):
-            judge.compare("another", 0, True, "tracker_register, climbing by 255", n)
-            return
-        if n % (255 << 14) == 0:
-            pair.model.received &= set(pair.model.window())
-    pair.record.keep()
-    print(f"  at {n} by calls", flush=True)
-    pair.told.append(f"by 255 to {n}")
+    pair.climb(TOP - 600)
+    print(f"  at {pair.model.highest} by calls alone", flush=True)
+    pair.shrunk = True
     for _ in range(2000):
         pair.register(min(TOP, max(0, pair.model.highest + rng.randrange(-260, 258))))
         pair.report()
@@ -197,4 +202,4 @@ def run(calls, judge, rng, whole):
         sequence(calls, judge, rng, rng.choice((20, 200, 400)))
     forged(calls, judge, rng, 50000 if whole else 3000)
     if whole:
-        climb(calls, judge, rng)
+        around_the_top(calls, judge, rng)

@@ -8,13 +8,13 @@ from reassembly import LATEST, MESSAGE, RECORD, ROOM, Pair
 
 class Deliveries(Pair):
     def deliver(self, payload, at, second, size=MESSAGE):
+        self.remember("deliver", payload, at, second, size)
         lent, out, told = Lent(payload), Lent(self.noise[:size]), Lent(self.noise[:48])
         number, place, wanted, message = model.deliver(payload, at, self.model, second, size)
         got = self.calls.block_deliver(*lent.slice(), at, *self.record.slice(), *self.room.slice(), *out.slice(), second, told.address)
         stands = self.state_stands(number) and lent.stays() and out.start_is(message or b"")
         stands = stands and (told.stays() if wanted is None else told.start_is(numbers(wanted)))
-        self.judge.compare((got.number, got.value), (number, place), stands, "block_deliver", self.told, payload, at, second, size)
-        self.remember("deliver", payload, at, second, size)
+        self.judged((got.number, got.value), (number, place), stands, "block_deliver", self.told)
         return number
 
 

@@ -3,13 +3,14 @@ import itertools
 
 from lent import Lent
 from reassembly_model import Store
+from shrink import Remembered
 
 RECORD, ROOM, MESSAGE = 8576, 1048560, 65535
 LATEST = 2 ** 64 - 1
 NUMBERS = {"first": (0, 50, 52, 53, 54, 55, 56, 60), "follow_on": (0, 50, 51, 52, 53, 54, 55, 56, 60)}
 
 
-class Pair:
+class Pair(Remembered):
     """A store of the library's and one of the model's that are handed the same pieces."""
 
     def __init__(self, calls, judge, rng):
@@ -21,7 +22,7 @@ class Pair:
 
     def start(self, new):
         """An empty store again: by strawhub_store_new, or as zeros over whatever the room holds."""
-        self.model, self.told = Store(), []
+        self.model, self.told, self.shrunk = Store(), [], False
         if not new:
             self.record = Lent(bytes(RECORD) + self.record.content()[RECORD:])
             return
@@ -47,25 +48,22 @@ class Pair:
         return self.piece("follow_on", wanted, (ident, number, last, second), data, size)
 
     def piece(self, call, wanted, numbers, data, size):
+        self.remember(call, *numbers, data, size)
         out, lent = Lent(self.noise[:size]), Lent(data)
         got = getattr(self.calls, "store_" + call)(*self.record.slice(), *self.room.slice(), *out.slice(), *numbers, *lent.slice())
         number, message = wanted
         kind, expires, whole = message or (0, 0, b"")
         stands = self.state_stands(number) and lent.stays() and out.start_is(whole)
         answer = (got.number, got.kind, got.expires, got.length)
-        self.judge.compare(answer, (number, kind, expires, len(whole)), stands, "store_" + call, self.told, call, *numbers, data, size)
-        self.remember(call, *numbers, data, size)
+        self.judged(answer, (number, kind, expires, len(whole)), stands, "store_" + call, self.told)
         return number
 
     def sweep(self, second):
+        self.remember("sweep", second)
         self.model.sweep(second)
         got = self.calls.store_sweep(*self.record.slice(), second)
-        self.judge.compare(got, 0, self.record.outside(RECORD) and self.room.stays(), "store_sweep", self.told, second)
+        self.judged(got, 0, self.record.outside(RECORD) and self.room.stays(), "store_sweep", self.told)
         self.record.keep()
-        self.remember("sweep", second)
-
-    def remember(self, *call):
-        self.told.append("(" + " ".join(w.hex() if isinstance(w, bytes) else str(w) for w in call) + ")")
 
     def cut(self, ident, pieces, i, second=0, size=MESSAGE):
         """Piece i of a message: a head and its pieces' bytes."""
@@ -151,7 +149,7 @@ def mixture(pair, steps, ids):
         ident = rng.choice(list(messages))
         pieces = messages[ident]
         i = rng.randrange(len(pieces[1]))
-        second = min(LATEST, max(0, second + rng.choice((0, 0, 0, 1, 2, -1))))
+        second = min(LATEST - 30, max(0, second + rng.choice((0, 0, 0, 1, 2, -1))))
         whole = sum(map(len, pieces[1]))
         size = rng.choice((MESSAGE, whole, whole, whole - 1, 0, whole + 3))
         if rng.random() < 0.15:

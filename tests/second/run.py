@@ -17,7 +17,7 @@ import time
 
 sys.path.insert(0, str(pathlib.Path(__file__).resolve().parents[1]))
 
-from calls import ROOT, Calls
+from calls import Calls
 from judge import Judge
 
 PARTS = ("cases", "nothing", "headers", "blocks", "acks", "reassembly", "deliveries", "lister")
@@ -58,7 +58,7 @@ def rounds(given, calls, judge):
 
 
 def compared(given):
-    judge = Judge(ROOT / "target/differences.txt")
+    judge = Judge()
     rounds(given, Calls(), judge)
     print(f"second program: {judge.compared} comparisons, {judge.different} differences", flush=True)
     return judge.different > 0
