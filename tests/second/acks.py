@@ -28,6 +28,10 @@ class Pair(Remembered):
         self.judged(got, wanted, stands, call, *inputs)
         self.record.keep()
 
+    def move(self):
+        """The caller may keep the record anywhere between two calls."""
+        self.record = Lent(self.record.content())
+
     def register(self, n):
         self.remember("register", n)
         got = self.calls.tracker_register(*self.record.slice(), n)
@@ -127,18 +131,29 @@ def next_number(rng, highest):
     return min(TOP, max(0, near + rng.choice((0, 1, 2, 3, -1, -2, -3, rng.randrange(-120, 121)))))
 
 
+def step(pair, rng, most):
+    """One number, rising by at most so much or around the window, sometimes with a question after it."""
+    rising = rng.random() < 0.6
+    pair.register(min(TOP, pair.model.highest + rng.randrange(1, most + 1)) if rising else next_number(rng, pair.model.highest))
+    chance = rng.random()
+    if chance < 0.1:
+        pair.report()
+    elif chance < 0.2:
+        pair.duplicate(next_number(rng, pair.model.highest))
+    elif chance < 0.25:
+        pair.move()
+
+
 def sequence(calls, judge, rng, steps):
-    pair = Pair(calls, judge, rng)
-    pair.ask()
-    step = rng.choice((1, 2, 5, 60, 255))
-    for i in range(steps):
-        rising = rng.random() < 0.6
-        pair.register(min(TOP, pair.model.highest + rng.randrange(1, step + 1)) if rising else next_number(rng, pair.model.highest))
-        if rng.random() < 0.1:
-            pair.report()
-        if rng.random() < 0.1:
-            pair.duplicate(next_number(rng, pair.model.highest))
-    pair.ask()
+    """Two trackers in turn, so that one's calls would show in the other."""
+    pairs = [(Pair(calls, judge, rng), rng.choice((1, 2, 5, 60, 255))) for _ in range(2)]
+    for _ in range(steps):
+        pair, most = rng.choice(pairs)
+        if not pair.told:
+            pair.ask()
+        step(pair, rng, most)
+    for pair, _ in pairs:
+        pair.ask()
 
 
 def short_sequences(calls, judge, rng, numbers_of, length):
@@ -199,7 +214,7 @@ def run(calls, judge, rng, whole):
     short_sequences(calls, judge, rng, (0, 1, 2, 3, 4, 5), 4 if whole else 3)
     short_sequences(calls, judge, rng, (0, 1, 254, 255, 256, 257, 510, 511), 4 if whole else 3)
     for _ in range(300 if whole else 25):
-        sequence(calls, judge, rng, rng.choice((20, 200, 400)))
+        sequence(calls, judge, rng, rng.choice((30, 300, 600)))
     forged(calls, judge, rng, 50000 if whole else 3000)
     if whole:
         around_the_top(calls, judge, rng)

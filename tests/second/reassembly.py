@@ -30,6 +30,10 @@ class Pair(Remembered):
         self.judge.compare(got, 0, self.record.outside(RECORD) and self.room.stays(), "store_new", self.record.before)
         self.record.keep()
 
+    def move(self):
+        """The caller may keep record and room anywhere between two calls."""
+        self.record, self.room = Lent(self.record.content()), Lent(self.room.content())
+
     def state_stands(self, number):
         """A refusal leaves record and room whole, an acceptance what is past their ends; then both are looked at anew."""
         if number not in (0, 60):
@@ -142,7 +146,10 @@ def clashes(pair):
 
 
 def mixture(pair, steps, ids):
-    """Pieces of messages under a few ids, some wrong, some again, with buffers of any length; sweeps; the clock mostly rises."""
+    """Pieces of messages under a few ids, some wrong, some again, with buffers of any length; sweeps; the clock mostly rises.
+
+    A step at a time, so that two stores can take turns.
+    """
     rng, second = pair.rng, pair.rng.choice((0, 1000, LATEST - 200))
     messages = {rng.choice((i, i % 16 << 28, (1 << 32) - 1 - i)): message(rng) for i in range(ids)}
     for _ in range(steps):
@@ -162,9 +169,22 @@ def mixture(pair, steps, ids):
             pair.sweep(min(LATEST, max(0, second + rng.choice((-1, 0, 20, 29, 30, 31)))))
         elif pair.cut(ident, pieces, i, second, size) == 60:
             messages[ident] = message(rng)
+        if rng.random() < 0.02:
+            pair.move()
+        yield
     for age in (29, 30):
         pair.sweep(min(LATEST, second + age))
     pair.sweep(LATEST)
+
+
+def in_turn(pairs, steps):
+    """Mixtures over two stores, a step of each in turn; both are empty at the end."""
+    for pair in pairs:
+        pair.start(new=pair.rng.random() < 0.5)
+    for _ in itertools.zip_longest(*(mixture(pair, steps, pair.rng.choice((3, 17, 24))) for pair in pairs)):
+        pass
+    for pair in pairs:
+        pair.empty()
 
 
 def any_order(pair, count, length, repeats):
@@ -303,9 +323,9 @@ def run(calls, judge, rng, whole):
         pair.start(new=True)
         any_order(pair, count, length, 0.2)
         pair.empty()
-    for _ in range(60 if whole else 4):
-        pair.start(new=rng.random() < 0.5)
-        mixture(pair, 2000 if whole else 400, rng.choice((3, 17, 24)))
-        pair.empty()
-    mixture(pair, 300, 20)
+    pairs = [pair, Pair(calls, judge, rng)]
+    for _ in range(30 if whole else 2):
+        in_turn(pairs, 2000 if whole else 400)
+    for _ in zip(range(300), mixture(pair, 301, 20)):
+        pass
     forged(pair, 4000 if whole else 120)
