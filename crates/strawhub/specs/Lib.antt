@@ -1,3 +1,5 @@
 -- What the C calls answer, as numbers.
+pub mod Outcomes
 pub mod Headers
+pub mod BlockNumbers
 pub mod Trackers

@@ -5,11 +5,8 @@ use Prim.Native.Nat.{ℕ}
 use lib.Dec.{eqb}
 use lib.ListN.{replicate}
 use Rattle.wire.specs.Parts.{splice}
-use Rattle.blocks.specs.declared.Written.{Written}
-use Rattle.blocks.specs.declared.Written.the-variants.{Length, Refused}
 use Rattle.acks.specs.Recorded.{short}
 use Rattle.acks.specs.declared.report.AckInfo.{AckInfo}
-use Rattle.strawhub.specs.declared.trackers.Outcome.{Outcome}
 
 -- 59 where the record is short
 unfoldable pub newAnswer : List ℕ → ℕ
@@ -26,8 +23,3 @@ reportNumbers r out = cond (eqb (r .number) 0) (r .through ∷ r .count ∷ r .l
 -- the pairs; refused, as they were
 unfoldable pub reportPairs : AckInfo → List ℕ → List ℕ
 reportPairs r pairs = cond (eqb (r .number) 0) (r .pairs) pairs
-
--- 0 and the length, or the refusal
-abbrev pub written : Written → Outcome
-written (Length n) = record { number = 0; value = n }
-written (Refused m) = record { number = m; value = 0 }

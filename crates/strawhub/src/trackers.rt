@@ -6,10 +6,12 @@ ghost use lib.ListN.{length};
 ghost use Rattle.acks.specs.Recorded.{registerThere, recordAfter, duplicateThere, reportThere};
 ghost use Rattle.acks.specs.Expanding.{expandOf, listAfter};
 ghost use Rattle.acks.specs.AckBlocks.{ackWriting, ackRoom};
-ghost use Rattle.strawhub.specs.Trackers.{newAnswer, newRecord, written, reportNumbers, reportPairs};
+ghost use Rattle.strawhub.specs.Outcomes.{written};
+ghost use Rattle.strawhub.specs.Trackers.{newAnswer, newRecord, reportNumbers, reportPairs};
+use super::outcomes::Outcome;
+use super::outcomes::outcome_of;
 use acks::expand::Expanded;
 use acks::report::AckInfo;
-use blocks::Written;
 
 // A tracker that has seen nothing. 59 where the record is short, and then it stays.
 #[no_mangle]
@@ -64,28 +66,6 @@ pub extern "C" fn strawhub_tracker_report(
 {
     let r = acks::recorded::report_in(tracker);
     put_report(r, out, pairs)
-}
-
-// 0 and the length of what was written, or the number of the refusal.
-#[repr(C)]
-pub struct Outcome {
-    pub number: u64,
-    pub value: u64,
-}
-
-fn outcome_of(w: Written) -> Outcome
-    ensures { λ r. ⌜ r ≡ written w ⌝ }
-{
-    match w {
-        Written::Length { count } => Outcome {
-            number: 0,
-            value: count as u64,
-        },
-        Written::Refused { number } => Outcome {
-            number: number as u64,
-            value: 0,
-        },
-    }
 }
 
 // The report as an Ack block at the start of a room: its length, or 41, 59, 30, and then the room stays.

@@ -2,7 +2,7 @@ use mathlib.Core.Path.{_≡_, refl, sym, ap, _∙_}
 use Rattle.acks.specs.declared.report.AckInfo.{AckInfo}
 use Rattle.acks.specs.AckBlocks.{ackWriting, ackRoom}
 use lib.ListN.{length}
-use Rattle.strawhub.specs.Trackers.{written}
+use Rattle.strawhub.specs.Outcomes.{written}
 use borrow.Author.Needs.{needs}
 use Rattle.strawhub.proofs.trackers.strawhub_tracker_ack_block.Statement.{statement}
 use Rattle.strawhub.proofs.trackers.strawhub_tracker_ack_block.Tie as tie

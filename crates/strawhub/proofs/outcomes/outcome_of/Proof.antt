@@ -1,8 +1,8 @@
 use mathlib.Core.Path.{_≡_, refl, sym, ap, _∙_}
-use Rattle.strawhub.specs.Trackers.{written}
+use Rattle.strawhub.specs.Outcomes.{written}
 use borrow.Author.Needs.{needs}
-use Rattle.strawhub.proofs.trackers.outcome_of.Statement.{statement}
-use Rattle.strawhub.proofs.trackers.outcome_of.Tie as tie
+use Rattle.strawhub.proofs.outcomes.outcome_of.Statement.{statement}
+use Rattle.strawhub.proofs.outcomes.outcome_of.Tie as tie
 
 enum-known-w : tie.Need-enum-known-w
 enum-known-w c = search needs
