@@ -3,9 +3,10 @@ use mathlib.Core.Path.{_≡_, refl, sym, ap, _∙_}
 use mathlib.Core.Bool.{Bool, true, false, _&&_, _||_, false≢true}
 use mathlib.Core.List.{List, [], _∷_}
 use mathlib.Core.Logic.{inl, inr}
-use Prim.Native.Nat.{ℕ}
-use lib.Dec.{eqb}
-use borrow.Author.Tests.{eq-eqb}
+use Prim.Native.Nat.{ℕ, _≤_}
+use lib.Dec.{eqb, leb}
+use lib.ListN.{length, getD}
+use borrow.Author.Tests.{eq-eqb, leb-true}
 use types.Run.{OneOf}
 use denote.Enum.Declared.{tagOf}
 use Rattle.blocks.proofs.Block
@@ -13,8 +14,12 @@ use Rattle.blocks.specs.declared.Block.{Block}
 use Rattle.blocks.specs.declared.Block.the-variants as Body
 use Rattle.blocks.specs.declared.Part.{Part}
 use Rattle.blocks.specs.Reading.{partOf}
-use Rattle.blocks.specs.Writing.{kindOf, fieldLength}
+use Rattle.blocks.specs.declared.Written.{Written}
+use Rattle.blocks.specs.Writing.{kindOf, fieldLength, writing, roomAfter}
+use Rattle.strawhub.specs.declared.outcomes.Outcome.{Outcome}
+use Rattle.strawhub.specs.Outcomes.{outcome, written}
 use Rattle.strawhub.specs.BlockNumbers.{fieldsOf, blockNumbers}
+use Rattle.strawhub.specs.BlockFields.{optionsFit, fits, blockBy, writeOutcome, writeRoom}
 
 -- a row is a block's numbers where its type, its part and its fields are that block's
 pub row-is : (r : List ℕ) (b x : Block) (p : Part) (n : ℕ) → b ≡ x → p ≡ partOf b → r ≡ kindOf x ∷ n ∷ p .start ∷ p .len ∷ fieldsOf x → r ≡ blockNumbers b n
@@ -63,3 +68,36 @@ is-options (Body.Opaque k p) e h = false≢true (sym (and-false (eqb k 1)) ∙ e
     and-false : (x : Bool) → (x && false) ≡ false
     and-false true = refl
     and-false false = refl
+
+-- both tests hold where their conjunction does
+both : (a b : Bool) → (a && b) ≡ true → (a ≡ true) × (b ≡ true)
+both true b e = (refl, e)
+both false b e = absurd (false≢true e)
+
+pub two-fit : (a x b y : ℕ) → (leb a x && leb b y) ≡ true → (a ≤ x) × (b ≤ y)
+two-fit a x b y e = let h = both (leb a x) (leb b y) e in (leb-true a x (h .0), leb-true b y (h .1))
+
+pub three-fit : (a x b y c z : ℕ) → ((leb a x && leb b y) && leb c z) ≡ true → (a ≤ x) × (b ≤ y) × (c ≤ z)
+three-fit a x b y c z e = let h = both (leb a x && leb b y) (leb c z) e in let g = two-fit a x b y (h .0) in (g .0, g .1, leb-true c z (h .1))
+
+pub options-fit : (f : List ℕ) → optionsFit f ≡ true → (getD f 0 0 ≤ 255) × (getD f 1 0 ≤ 255) × (getD f 2 0 ≤ 255) × (getD f 3 0 ≤ 255) × (getD f 4 0 ≤ 65535) × (getD f 5 0 ≤ 65535) × (getD f 6 0 ≤ 65535) × (getD f 7 0 ≤ 65535)
+options-fit f e =
+    let h = both _ (leb (getD f 7 0) 65535) e in
+    let g = both _ (leb (getD f 6 0) 65535) (h .0) in
+    let k = both _ (leb (getD f 5 0) 65535) (g .0) in
+    let m = both _ (leb (getD f 4 0) 65535) (k .0) in
+    let n = both _ (leb (getD f 3 0) 255) (m .0) in
+    let a = three-fit (getD f 0 0) 255 (getD f 1 0) 255 (getD f 2 0) 255 (n .0) in
+    (a .0, a .1, a .2, leb-true _ _ (n .1), leb-true _ _ (m .1), leb-true _ _ (k .1), leb-true _ _ (g .1), leb-true _ _ (h .1))
+
+module _ (kind : ℕ) (f bytes room : List ℕ) where
+  -- a field that does not fit is refused
+  pub unfit : fits kind f ≡ false → (outcome 32 0 ≡ writeOutcome kind f bytes (length room)) × (room ≡ writeRoom kind f bytes room)
+  unfolding writeOutcome writeRoom
+  unfit e = rw e (refl, refl)
+
+  -- what fits is the writer's
+  pub fitting : (b : Block) (w : Written) (o : Outcome) (room′ : List ℕ) → fits kind f ≡ true → b ≡ blockBy kind f → w ≡ writing b bytes (length room) → room′ ≡ roomAfter b bytes room → o ≡ written w
+      → (o ≡ writeOutcome kind f bytes (length room)) × (room′ ≡ writeRoom kind f bytes room)
+  unfolding writeOutcome writeRoom
+  fitting b w o room′ e eb ew er eo = rw e (eo ∙ ap written (ew ∙ ap (λ (x : Block). writing x bytes (length room)) eb), er ∙ ap (λ (x : Block). roomAfter x bytes room) eb)

@@ -2,4 +2,5 @@
 pub mod Outcomes
 pub mod Headers
 pub mod BlockNumbers
+pub mod BlockFields
 pub mod Trackers
