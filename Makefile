@@ -1,4 +1,4 @@
-# make list: the blocks of a payload. make test: the format, the second program, then the whole gate. make bench: both sides timed in one run.
+# make list: the blocks of a payload. make test: the format, then the whole gate. make bench: both sides timed in one run.
 # make second: the library beside an independent program of the rules; WORDS="-l" for the long round.
 .PHONY: list test second bench
 
@@ -14,7 +14,6 @@ list:
 
 test:
 	rt fmt --check
-	tests/second/run
 	rt ci
 
 second:

@@ -189,24 +189,6 @@ def short_records(calls, judge, rng):
         judge.compare(got, (59,) * 6, stands, "tracker calls on a short record", record.content())
 
 
-def forged(calls, judge, rng, count):
-    """Records that no call made: the calls return, answer a number of 01's, and write no byte but what they are lent."""
-    for _ in range(count):
-        fill = rng.choice((rng.randbytes(TRACKER), b"\xff" * TRACKER, bytes([rng.randrange(256)]) * TRACKER, bytes(255) + rng.randbytes(4)))
-        at = rng.randrange(TRACKER)
-        content = fill[:at] + rng.randbytes(1) + fill[at + 1:] + bytes(rng.randrange(3))
-        record, out, pairs, room = Lent(content), Lent(rng.randbytes(24)), Lent(rng.randbytes(254)), Lent(rng.randbytes(rng.choice((0, 8, 100, 262))))
-        number = rng.choice((0, 255, TOP, rng.getrandbits(32), rng.getrandbits(9)))
-        asked = calls.tracker_duplicate(*record.slice(), number)
-        report = calls.tracker_report(*record.slice(), out.address, pairs.address)
-        block = calls.tracker_ack_block(*record.slice(), *room.slice())
-        stands = record.stays() and out.outside(24) and pairs.outside(254) and (room.outside(block.value) if block.number == 0 else room.stays())
-        registered = calls.tracker_register(*record.slice(), number)
-        stands = stands and (record.stays() if registered else record.outside(TRACKER)) and (report == 0 or out.stays() and pairs.stays())
-        good = asked in (0, 1) and report in (0, 41) and block.number in (0, 41, 30) and registered in (0, 40, 42, 43) and block.value <= room.size
-        judge.compare(good, True, stands, "tracker calls on a forged record", content, number, room.size)
-
-
 def run(calls, judge, rng, whole):
     short_expansions(calls, judge, rng, whole)
     expansions(calls, judge, rng, 20000 if whole else 2000)
@@ -215,6 +197,5 @@ def run(calls, judge, rng, whole):
     short_sequences(calls, judge, rng, (0, 1, 254, 255, 256, 257, 510, 511), 4 if whole else 3)
     for _ in range(300 if whole else 25):
         sequence(calls, judge, rng, rng.choice((30, 300, 600)))
-    forged(calls, judge, rng, 50000 if whole else 3000)
     if whole:
         around_the_top(calls, judge, rng)

@@ -3,7 +3,7 @@ import messages_model as model
 from blocks import REFUSED, block, live, some_block
 from blocks_model import LISTED, listing
 from lent import Lent, numbers
-from reassembly import LATEST, MESSAGE, RECORD, ROOM, Pair
+from stores import LATEST, MESSAGE, RECORD, ROOM, Pair
 
 
 class Deliveries(Pair):

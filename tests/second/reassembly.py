@@ -2,90 +2,7 @@
 import itertools
 
 from lent import Lent
-from reassembly_model import Store
-from shrink import Remembered
-
-RECORD, ROOM, MESSAGE = 8576, 1048560, 65535
-LATEST = 2 ** 64 - 1
-NUMBERS = {"first": (0, 50, 52, 53, 54, 55, 56, 60), "follow_on": (0, 50, 51, 52, 53, 54, 55, 56, 60)}
-
-
-class Pair(Remembered):
-    """A store of the library's and one of the model's that are handed the same pieces."""
-
-    def __init__(self, calls, judge, rng):
-        self.calls, self.judge, self.rng = calls, judge, rng
-        self.noise = rng.randbytes(MESSAGE + 100)
-        tail = rng.randbytes(rng.choice((0, 0, 1, 40)))
-        self.record, self.room = Lent(rng.randbytes(RECORD) + tail), Lent(rng.randbytes(1) * ROOM + tail)
-        self.start(new=True)
-
-    def start(self, new):
-        """An empty store again: by strawhub_store_new, or as zeros over whatever the room holds."""
-        self.model, self.told, self.shrunk = Store(), [], False
-        if not new:
-            self.record = Lent(bytes(RECORD) + self.record.content()[RECORD:])
-            return
-        got = self.calls.store_new(*self.record.slice())
-        self.judge.compare(got, 0, self.record.outside(RECORD) and self.room.stays(), "store_new", self.record.before)
-        self.record.keep()
-
-    def move(self):
-        """The caller may keep record and room anywhere between two calls."""
-        self.record, self.room = Lent(self.record.content()), Lent(self.room.content())
-
-    def state_stands(self, number):
-        """A refusal leaves record and room whole, an acceptance what is past their ends; then both are looked at anew."""
-        if number not in (0, 60):
-            return self.record.stays() and self.room.stays()
-        stands = self.record.outside(RECORD) and self.room.outside(ROOM)
-        self.record.keep()
-        self.room.keep()
-        return stands
-
-    def first(self, ident, kind, expires, second, data, size=MESSAGE):
-        wanted = self.model.first(ident, kind, expires, second, data, size)
-        return self.piece("first", wanted, (ident, kind, expires, second), data, size)
-
-    def follow_on(self, ident, number, last, second, data, size=MESSAGE):
-        wanted = self.model.follow_on(ident, number, last != 0, second, data, size)
-        return self.piece("follow_on", wanted, (ident, number, last, second), data, size)
-
-    def piece(self, call, wanted, numbers, data, size):
-        self.remember(call, *numbers, data, size)
-        out, lent = Lent(self.noise[:size]), Lent(data)
-        got = getattr(self.calls, "store_" + call)(*self.record.slice(), *self.room.slice(), *out.slice(), *numbers, *lent.slice())
-        number, message = wanted
-        kind, expires, whole = message or (0, 0, b"")
-        stands = self.state_stands(number) and lent.stays() and out.start_is(whole)
-        answer = (got.number, got.kind, got.expires, got.length)
-        self.judged(answer, (number, kind, expires, len(whole)), stands, "store_" + call, self.told)
-        return number
-
-    def sweep(self, second):
-        self.remember("sweep", second)
-        self.model.sweep(second)
-        got = self.calls.store_sweep(*self.record.slice(), second)
-        self.judged(got, 0, self.record.outside(RECORD) and self.room.stays(), "store_sweep", self.told)
-        self.record.keep()
-
-    def cut(self, ident, pieces, i, second=0, size=MESSAGE):
-        """Piece i of a message: a head and its pieces' bytes."""
-        head, parts = pieces
-        if i == 0:
-            return self.first(ident, *head, second, parts[0], size)
-        return self.follow_on(ident, i, int(i == len(parts) - 1), second, parts[i], size)
-
-    def empty(self):
-        """No message is open: sixteen new ones are kept, the seventeenth is not; then they are swept away."""
-        self.judge.compare(len(self.model.open), 0, True, "messages open at the end", self.told)
-        for _ in range(2):
-            idents = self.rng.sample(range(1 << 32), 17)
-            answers = [self.first(ident, 1, 2, 100, b"piece") for ident in idents]
-            self.judge.compare(answers, [0] * 16 + [52], True, "sixteen new messages and one more")
-            self.sweep(129)
-            self.judge.compare(self.first(idents[16], 1, 2, 100, b"piece"), 52, True, "swept a second early")
-            self.sweep(130)
+from stores import LATEST, MESSAGE, RECORD, ROOM, Pair
 
 
 def message(rng, most=12):
@@ -269,8 +186,9 @@ def sweeps(pair):
             pair.follow_on(4, 1, 1, now, b"a")
 
 
-def short_loans(calls, judge, rng, sizes):
+def short_loans(calls, judge, rng):
     """59 comes first wherever record or room is short, and nothing is written; a sweep answers 0."""
+    sizes = (0, ROOM), (RECORD - 1, ROOM), (RECORD, 0), (RECORD, ROOM - 1), (RECORD + 9, 100), (0, 0), (RECORD - 1, ROOM - 1)
     for record_size, room_size in sizes:
         record, room, out = Lent(rng.randbytes(record_size)), Lent(rng.randbytes(1) * room_size), Lent(rng.randbytes(200))
         for length in (0, 5, 1501):
@@ -285,38 +203,13 @@ def short_loans(calls, judge, rng, sizes):
             judge.compare(got, (59, 0), record.stays(), "store_new and store_sweep on a short record", record_size)
 
 
-def forged(pair, count):
-    """Records that no call made: every call returns with a number of 01's and writes no byte but what it is lent."""
-    calls, rng, judge = pair.calls, pair.rng, pair.judge
-    real = pair.record.content()[:RECORD]
-    for _ in range(count):
-        at, n = rng.randrange(RECORD), rng.choice((1, 4, 24, 400))
-        content = rng.choice((rng.randbytes(RECORD), b"\xff" * RECORD, (real[:at] + rng.randbytes(n) + real[at + n:])[:RECORD]))
-        pair.record = Lent(content)
-        ident = int.from_bytes(content[24 * rng.randrange(16):][:4], "little") if rng.random() < 0.8 else rng.getrandbits(32)
-        for _ in range(4):
-            forged_piece(calls, judge, rng, pair, rng.choice((ident, rng.getrandbits(32))))
-        got = calls.store_sweep(*pair.record.slice(), rng.choice((0, 30, LATEST, rng.getrandbits(64))))
-        judge.compare(got, 0, pair.record.outside(RECORD) and pair.room.stays(), "store_sweep on a forged record", content)
-
-
-def forged_piece(calls, judge, rng, pair, ident):
-    data, out = Lent(rng.randbytes(rng.choice((0, 1, 20, 1500, 1501)))), Lent(pair.noise[:rng.choice((0, 100, MESSAGE))])
-    call, before = rng.choice(("first", "follow_on")), bytes(pair.record.content())
-    numbers = (ident, rng.randrange(256), rng.randrange(2), rng.getrandbits(64))
-    got = getattr(calls, "store_" + call)(*pair.record.slice(), *pair.room.slice(), *out.slice(), *numbers, *data.slice())
-    written = got.length if got.number == 60 else 0
-    stands = pair.state_stands(got.number) and data.stays() and written <= out.size and out.outside(written)
-    judge.compare(got.number in NUMBERS[call], True, stands, f"store_{call} on a forged record", before, *numbers, data.content(), out.size)
-
-
 def run(calls, judge, rng, whole):
     pair = Pair(calls, judge, rng)
     limits(pair)
     full(pair)
     clashes(pair)
     sweeps(pair)
-    short_loans(calls, judge, rng, ((0, ROOM), (RECORD - 1, ROOM), (RECORD, 0), (RECORD, ROOM - 1), (RECORD + 9, 100), (0, 0), (RECORD - 1, ROOM - 1)))
+    short_loans(calls, judge, rng)
     pair.start(new=True)
     short_schedules(pair, 5 if whole else 3)
     for count, length in ((2, 64), (2, 1500), (8, 511), (43, 1500), (128, 64), (128, 511)):
@@ -326,6 +219,3 @@ def run(calls, judge, rng, whole):
     pairs = [pair, Pair(calls, judge, rng)]
     for _ in range(30 if whole else 2):
         in_turn(pairs, 2000 if whole else 400)
-    for _ in zip(range(300), mixture(pair, 301, 20)):
-        pass
-    forged(pair, 4000 if whole else 120)

@@ -4,7 +4,7 @@
 usage: tests/second/run.py [-l] [-s SEED] [-r ROUNDS] [PART ...]
   -l    the long round: every type, every length, longer sequences; without it about 25 seconds
   -s    the seed, 8439 if none is given; -r so many rounds, each with the next seed
-  PART  cases, nothing, headers, blocks, acks, reassembly, deliveries, lister; all of them if none is named
+  PART  cases, nothing, headers, blocks, acks, reassembly, deliveries, forged, lister; all of them if none is named
 """
 import argparse
 import faulthandler
@@ -20,7 +20,7 @@ sys.path.insert(0, str(pathlib.Path(__file__).resolve().parents[1]))
 from calls import Calls
 from judge import Judge
 
-PARTS = ("cases", "nothing", "headers", "blocks", "acks", "reassembly", "deliveries", "lister")
+PARTS = ("cases", "nothing", "headers", "blocks", "acks", "reassembly", "deliveries", "forged", "lister")
 
 # what each call has to have answered in a whole round, or the round tried too little
 ANSWERS = {
