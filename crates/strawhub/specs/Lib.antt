@@ -3,4 +3,5 @@ pub mod Outcomes
 pub mod Headers
 pub mod BlockNumbers
 pub mod BlockFields
+pub mod Deliveries
 pub mod Trackers

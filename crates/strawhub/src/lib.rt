@@ -1,6 +1,7 @@
 // The calls of the daemon, over the C calling convention: numbers and byte slices alone, each a few lines over a proved function.
 pub mod block_reads;
 pub mod block_writes;
+pub mod deliveries;
 pub mod headers;
 pub mod outcomes;
 pub mod stores;
