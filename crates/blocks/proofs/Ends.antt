@@ -11,6 +11,8 @@ use Rattle.blocks.specs.declared.Taken.{Taken}
 use Rattle.blocks.specs.declared.Taken.the-variants as Take
 use Rattle.blocks.specs.declared.Extent.the-variants as End
 use Rattle.blocks.specs.Extent.{listed, fitsIn, atLeast, routerInfo, i2np, firstFragment, followOn, pairsIn, address, takenAt, fieldsOf, kindAt, sizeAt, ends, extentAt}
+use Rattle.blocks.specs.Sound.{bodyLength}
+use Rattle.blocks.proofs.Soundness.{taken-length}
 
 -- what is known of an answer: bytes that are taken are there, and are no fewer than the fields
 data Holds (left fields : ℕ) : Taken → Type 0 where
@@ -94,6 +96,7 @@ pub record Bounded (s : List ℕ) (at kind size next : ℕ) : Type 0 where
   pub is-size : sizeAt s at ≡ size
   pub fields : at + 3 + fieldsOf kind ≤ next
   pub inside : next ≤ length s
+  pub length-is : next ≡ at + 3 + bodyLength kind size
 
 pub bounded : (s : List ℕ) (at kind size next : ℕ) → extentAt s at ≡ End.Ends kind size next → Bounded s at kind size next
 unfolding extentAt
@@ -106,7 +109,8 @@ bounded s at kind size next e = whole (leb (at + 3) (length s)) refl e
         let x : at + 3 + n ≡ next = cc in
         let t = taken-holds s (at + 3) (sizeAt s at) (kindAt s at) n q in
         let g : fieldsOf kind ≤ n = subst (λ (j : ℕ). fieldsOf j ≤ n) k (t .0) in
-        record { is-kind = k; is-size = z; fields = omega arith; inside = omega (arith, t .1) }
+        let l : n ≡ bodyLength kind size = taken-length s (at + 3) (sizeAt s at) (kindAt s at) n q ∙ ap (λ (j : ℕ). bodyLength j (sizeAt s at)) k ∙ ap (bodyLength kind) z in
+        record { is-kind = k; is-size = z; fields = omega arith; inside = omega (arith, t .1); length-is = sym x ∙ ap (λ (j : ℕ). at + 3 + j) l }
     body h (Take.Refused m) q f = let z : _≡_ {A = ℕ} 0 1 = cc in absurd (omega arith)
 
     whole : (b : Bool) → leb (at + 3) (length s) ≡ b → cond b (ends at (kindAt s at) (sizeAt s at) (takenAt s (at + 3) (kindAt s at) (sizeAt s at))) (End.Refused 1 at) ≡ End.Ends kind size next → Bounded s at kind size next

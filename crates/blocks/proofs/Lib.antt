@@ -3,6 +3,8 @@ pub mod Ends
 pub mod Walk
 pub mod Puts
 pub mod Types
+pub mod Tables
+pub mod Soundness
 pub mod WriteThenRead
 pub mod ReadThenWrite
 pub mod ListingIsReadings

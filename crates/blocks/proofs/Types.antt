@@ -35,11 +35,11 @@ two Q a b zero h = a
 two Q a b (suc zero) h = b
 two Q a b (suc (suc j)) h = absurd (omega arith)
 
-or-true : (x y : Bool) → (x || y) ≡ true → (x ≡ true) ⊎ (y ≡ true)
+pub or-true : (x y : Bool) → (x || y) ≡ true → (x ≡ true) ⊎ (y ≡ true)
 or-true true y e = inl refl
 or-true false y e = inr e
 
-and-true : (x y : Bool) → (x && y) ≡ true → (x ≡ true) × (y ≡ true)
+pub and-true : (x y : Bool) → (x && y) ≡ true → (x ≡ true) × (y ≡ true)
 and-true true y e = (refl, e)
 and-true false y e = absurd (false≢true e)
 

@@ -14,8 +14,9 @@ use Rattle.blocks.specs.declared.Extent.the-variants as End
 use Rattle.blocks.specs.declared.Entry.{Entry}
 use Rattle.blocks.specs.declared.Step.{Step}
 use Rattle.blocks.specs.declared.Answer.{Answer}
-use Rattle.blocks.specs.Extent.{extentAt}
-use Rattle.blocks.specs.Listing.{Listing, ok, no, entry, cons, onward, blocksFrom, blocksOf, limited, listing, counts, refusal, answerOf, filled, stepOf, stepAt, entriesFrom}
+use Rattle.blocks.specs.Extent.{kindAt, sizeAt, extentAt}
+use Rattle.blocks.specs.Sound.{bodyLength}
+use Rattle.blocks.specs.Listing.{Listing, ok, no, entry, cons, onward, blocksFrom, blocksOf, limited, listing, counts, refusal, answerOf, filled, stepOver, staysAt, stepAt, entriesFrom}
 use Rattle.blocks.proofs.Ends.{bounded}
 
 -- the one thing
@@ -117,6 +118,23 @@ nothing c s h = sym (ap (λ (f : ℕ). answerOf (limited c (blocksFrom f s 0))) 
 
 -- ---- filling
 
+-- the step over a block that was read is to its end
+steps : (s : List ℕ) (at k z next : ℕ) → extentAt s at ≡ End.Ends k z next → stepAt s at ≡ record { entry = entry at k z; next = next }
+unfolding stepAt
+steps s at k z next e =
+    let b = bounded s at k z next e in
+    let n : at + 3 + bodyLength (kindAt s at) (sizeAt s at) ≡ next = ap (λ (j : ℕ). at + 3 + bodyLength j (sizeAt s at)) (b .is-kind) ∙ ap (λ (j : ℕ). at + 3 + bodyLength k j) (b .is-size) ∙ sym (b .length-is) in
+    rw (le-leb (at + 3 + bodyLength (kindAt s at) (sizeAt s at)) (length s) (omega (arith, n, b .inside))) (ap (λ (j : ℕ). record { entry = entry at (kindAt s at) (sizeAt s at); next = j }) n ∙ ap (λ (j : ℕ). record { entry = entry at j (sizeAt s at); next = next }) (b .is-kind) ∙ ap (λ (j : ℕ). record { entry = entry at k j; next = next }) (b .is-size))
+
+-- a step as the code finds it
+pub no-step : (s : List ℕ) (at : ℕ) → length s < at + 3 + bodyLength (kindAt s at) (sizeAt s at) → staysAt at ≡ stepAt s at
+unfolding stepAt
+no-step s at h = rw (lt-leb (at + 3 + bodyLength (kindAt s at) (sizeAt s at)) (length s) h)
+
+pub step-over : (s : List ℕ) (at z n : ℕ) → z ≡ sizeAt s at → n ≡ bodyLength (kindAt s at) (sizeAt s at) → at + 3 + n ≤ length s → record { entry = entry at (kindAt s at) z; next = at + 3 + n } ≡ stepAt s at
+unfolding stepAt
+step-over s at z n e q h = rw (e, le-leb (at + 3 + bodyLength (kindAt s at) (sizeAt s at)) (length s) (omega (arith, q))) (ap (stepOver s at) q)
+
 -- where there is a listing, its records are those
 pub listed : (f : ℕ) (s : List ℕ) (at : ℕ) (es : List Entry) → blocksFrom f s at ≡ ok es → entriesFrom (length es) s at ≡ es
 unfolding blocksFrom
@@ -138,7 +156,7 @@ listed (suc f) s at es e = go (λ next fs g. listed f s next fs g) (extentAt s a
     tail ih false next fs g = let h : [] ≡ fs = cc in subst (λ (l : List Entry). entriesFrom (length l) s next ≡ l) h refl
 
     go : Rest → (x : Extent) → extentAt s at ≡ x → onward s at (blocksFrom f s) x ≡ ok es → entriesFrom (length es) s at ≡ es
-    go ih (End.Ends k z next) q g = more k z next (ap (stepOf at) q) (cond (ltb next (length s)) (blocksFrom f s next) (ok [])) (tail ih (ltb next (length s)) next) g
+    go ih (End.Ends k z next) q g = more k z next (steps s at k z next q) (cond (ltb next (length s)) (blocksFrom f s next) (ok [])) (tail ih (ltb next (length s)) next) g
     go ih (End.Refused m p) q g = let z : _≡_ {A = ℕ} 0 1 = cc in absurd (omega arith)
 
 -- a list that is long enough holds them

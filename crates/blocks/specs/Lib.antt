@@ -1,5 +1,6 @@
 -- What the contracts of `blocks` cite.
 pub mod Extent
+pub mod Sound
 pub mod Reading
 pub mod Listing
 pub mod Writing

@@ -1,7 +1,7 @@
 -- The listing of a payload: a record for each block, or the refusal.
 use mathlib.Core.Bool.{cond}
 use mathlib.Core.List.{List, [], _∷_, _++_}
-use Prim.Native.Nat.{ℕ, zero, suc}
+use Prim.Native.Nat.{ℕ, zero, suc, _+_}
 use lib.Dec.{ltb, leb}
 use lib.ListN.{length, getD, drop}
 use Rattle.blocks.specs.declared.Extent.{Extent}
@@ -9,7 +9,8 @@ use Rattle.blocks.specs.declared.Extent.the-variants as End
 use Rattle.blocks.specs.declared.Entry.{Entry}
 use Rattle.blocks.specs.declared.Step.{Step}
 use Rattle.blocks.specs.declared.Answer.{Answer}
-use Rattle.blocks.specs.Extent.{extentAt}
+use Rattle.blocks.specs.Extent.{kindAt, sizeAt, extentAt}
+use Rattle.blocks.specs.Sound.{bodyLength}
 
 -- what a listing gives: its records, or a refusal's number and place
 pub data Listing : Type 0 where
@@ -71,14 +72,19 @@ abbrev pub refusalOf : Extent → Answer
 refusalOf (End.Refused m p) = refusal m p
 refusalOf (End.Ends k z next) = counts 0
 
--- a record and the place after its block; where none was read, the place itself
-abbrev pub stepOf : ℕ → Extent → Step
-stepOf at (End.Ends k z next) = record { entry = entry at k z; next = next }
-stepOf at (End.Refused m p) = record { entry = entry p 0 0; next = p }
+-- where a step cannot be made
+abbrev pub staysAt : ℕ → Step
+staysAt at = record { entry = entry at 0 0; next = at }
 
--- the record of the block at a place, and the place after it
-abbrev pub stepAt : List ℕ → ℕ → Step
-stepAt s at = stepOf at (extentAt s at)
+-- the record of a block, and the place after a body of n bytes
+abbrev pub stepOver : List ℕ → ℕ → ℕ → Step
+stepOver s at n = record { entry = entry at (kindAt s at) (sizeAt s at); next = at + 3 + n }
+
+-- the record of the block at a place, and the place after it by type and size alone: what a listing goes by once every block was found good
+unfoldable pub stepAt : List ℕ → ℕ → Step
+stepAt s at =
+    let n = bodyLength (kindAt s at) (sizeAt s at) in
+    cond (leb (at + 3 + n) (length s)) (stepOver s at n) (staysAt at)
 
 -- the records of the k blocks from a place on, step by step
 abbrev pub entriesFrom : ℕ → List ℕ → ℕ → List Entry

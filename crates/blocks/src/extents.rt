@@ -1,6 +1,8 @@
 // Where a block ends: the tests of a body, by family, and their refusals.
 use super::Extent;
 use super::Taken;
+use super::sound::body_length;
+use super::sound::is_sound;
 use wire::be_u16;
 ghost use mathlib.Core.Path.{_≡_};
 ghost use Prim.Native.Nat.{_+_, _<_, _≤_};
@@ -14,7 +16,7 @@ pub fn is_listed(kind: u8) -> bool
     ((1 <= kind) & (kind <= 3)) | ((10 <= kind) & (kind <= 11)) | ((18 <= kind) & (kind <= 26))
 }
 
-fn wide(x: u16) -> usize
+pub fn wide(x: u16) -> usize
     ensures { λ r. ⌜ (r ≡ x) × (r < 65536) ⌝ }
 {
     x as usize
@@ -31,7 +33,7 @@ fn fits_in(need: usize, left: usize) -> Taken
 }
 
 // What Options and Termination take: size, but no less than their fields.
-fn at_least(fields: usize, size: usize) -> usize
+pub fn at_least(fields: usize, size: usize) -> usize
     ensures { λ r. ⌜ r ≡ atLeast fields size ⌝ }
 {
     if fields <= size {
@@ -103,7 +105,7 @@ fn follow_on(size: usize, left: usize) -> Taken
 }
 
 // The bytes of an Ack's pairs: those above five if they are even, else none.
-fn pairs_in(size: usize) -> usize
+pub fn pairs_in(size: usize) -> usize
     requires { ⌜ size < 65536 ⌝ }
     ensures { λ r. ⌜ (r ≡ pairsIn size) × (r < 65536) ⌝ }
 {
@@ -174,11 +176,23 @@ pub fn extent_of(payload: &[u8], at: usize) -> Extent
     }
     let kind = payload[at];
     let size = be_u16(payload, at + 1);
-    match taken_at(payload, at + 3, kind, wide(size)) {
+    let body = at + 3;
+    let need = body_length(kind, wide(size));
+    // a sound block, without a walk through the tests
+    if need <= payload.len() - body {
+        if is_sound(payload, body, kind, wide(size)) {
+            return Extent::Ends {
+                kind,
+                size,
+                next: body + need,
+            };
+        }
+    }
+    match taken_at(payload, body, kind, wide(size)) {
         Taken::Bytes { count } => Extent::Ends {
             kind,
             size,
-            next: at + 3 + count,
+            next: body + count,
         },
         Taken::Refused { number } => Extent::Refused { number, place: at },
     }

@@ -3,6 +3,7 @@ pub mod extents;
 mod fields;
 pub mod listing;
 pub mod reading;
+mod sound;
 pub mod writing;
 
 // Bytes of the payload: where they start, and how many they are.

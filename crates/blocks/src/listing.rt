@@ -4,10 +4,13 @@ use super::Entry;
 use super::Extent;
 use super::Step;
 use super::extents::extent_of;
+use super::extents::wide;
+use super::sound::body_length;
+use wire::be_u16;
 ghost use mathlib.Core.Path.{_≡_};
 ghost use mathlib.Core.Bool.{cond};
 ghost use lib.ListN.{length};
-ghost use Rattle.blocks.specs.Listing.{refusalOf, stepAt, listing, answerOf, filled};
+ghost use Rattle.blocks.specs.Listing.{refusalOf, staysAt, stepAt, listing, answerOf, filled};
 
 fn pick(c: bool, a: usize, b: usize) -> usize
     ensures { λ r. ⌜ r ≡ cond c a b ⌝ }
@@ -81,27 +84,42 @@ pub fn count_blocks(payload: &[u8], capacity: usize) -> Answer
     }
 }
 
-// The record of the block at a place, and the place after it; where none was read, the place itself.
+fn stays_at(at: usize) -> Step
+    ensures { λ r. ⌜ r ≡ staysAt at ⌝ }
+{
+    Step {
+        entry: Entry {
+            place: at,
+            kind: 0,
+            size: 0,
+        },
+        next: at,
+    }
+}
+
+// The record of the block at a place, and the place after it by type and size alone, as for a block that was read; where that is past the end, the place itself.
 pub fn step_at(payload: &[u8], at: usize) -> Step
     ensures { λ r. ⌜ r ≡ stepAt (now (payload .entry)) at ⌝ }
 {
-    match extent_of(payload, at) {
-        Extent::Ends { kind, size, next } => Step {
-            entry: Entry {
-                place: at,
-                kind,
-                size,
-            },
-            next,
+    if payload.len() < 3 {
+        return stays_at(at);
+    }
+    if payload.len() - 3 < at {
+        return stays_at(at);
+    }
+    let kind = payload[at];
+    let size = be_u16(payload, at + 1);
+    let need = body_length(kind, wide(size));
+    if payload.len() - (at + 3) < need {
+        return stays_at(at);
+    }
+    Step {
+        entry: Entry {
+            place: at,
+            kind,
+            size,
         },
-        Extent::Refused { number: _, place } => Step {
-            entry: Entry {
-                place,
-                kind: 0,
-                size: 0,
-            },
-            next: place,
-        },
+        next: at + 3 + need,
     }
 }
 

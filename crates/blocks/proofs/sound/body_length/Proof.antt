@@ -1,0 +1,33 @@
+use mathlib.Core.Path.{_≡_, sym, ap, _∙_, subst}
+use Prim.Native.Nat.{ℕ, _<_}
+use native.Mathlib.Omega.{arith}
+use Rattle.blocks.specs.Extent.{atLeast}
+use Rattle.blocks.specs.Sound.{floorOf, counted, bodyLength}
+use Rattle.blocks.proofs.Soundness.{high-length, at-least-below, floor-below}
+use borrow.Author.Needs.{needs}
+use Rattle.blocks.proofs.sound.body_length.Statement.{statement}
+use Rattle.blocks.proofs.sound.body_length.Tie as tie
+
+returns : tie.Need-returns
+returns c = let a = c .before .args in (sym (high-length (a .kind) (a .size) (c .if1 .taken)), c .before .pre)
+
+floor-of-requires : tie.Need-floor-of-requires
+floor-of-requires c κs = search needs
+
+counted-requires : tie.Need-counted-requires
+counted-requires c κs = search needs
+
+at-least-requires : tie.Need-at-least-requires
+at-least-requires c κs = search needs
+
+returns-2 : tie.Need-returns-2
+unfolding bodyLength
+returns-2 c =
+    let a = c .before .before .before .before .args in
+    let e : c .at-least .result ≡ bodyLength (a .kind) (a .size) = c .at-least .ensures ∙ ap (λ (f : ℕ). atLeast f (c .before .counted .result)) (c .before .before .floor-of .ensures) ∙ ap (atLeast (floorOf (a .kind))) (c .before .counted .ensures .0) in
+    let n : counted (a .kind) (a .size) < 65536 = subst (λ (m : ℕ). m < 65536) (c .before .counted .ensures .0) (omega (arith, c .before .counted .ensures .1, c .before .before .before .before .pre)) in
+    (e, subst (λ (m : ℕ). m < 65536) (sym e) (at-least-below (floorOf (a .kind)) (counted (a .kind) (a .size)) 65536 (floor-below (a .kind)) n))
+
+pub body-length-spec : {M : Type 1} → statement M
+body-length-spec =
+    tie.close (tie.spec returns floor-of-requires counted-requires at-least-requires returns-2)

@@ -1,0 +1,50 @@
+-- Sound bodies: what one takes, by type and size alone, and its tests where its bytes are there. That this is what `takenAt` says is shown.
+use mathlib.Core.Bool.{Bool, true, cond, _&&_, _||_}
+use mathlib.Core.List.{List}
+use Prim.Native.Nat.{ℕ, _+_, _%_}
+use lib.Dec.{ltb, leb, eqb}
+use lib.ListN.{getD}
+use Rattle.blocks.specs.Extent.{listed, atLeast}
+
+-- the fewest bytes of a body, by type
+unfoldable pub floorOf : ℕ → ℕ
+floorOf kind =
+    cond (eqb kind 0) 4
+    (cond (eqb kind 1) 12
+    (cond (eqb kind 6) 9
+    (cond (eqb kind 12) 5
+    (cond (eqb kind 16) 4
+    (cond (eqb kind 17) 12
+    (cond (eqb kind 20) 4
+    (cond (eqb kind 21) 1
+    0)))))))
+
+-- those numbers, four bits a type: types 0 to 15, and 16 to 21
+abbrev pub rowOf : ℕ → ℕ
+rowOf kind = cond (ltb kind 16) 1407375034548420 1310916
+
+-- the types whose size is not looked at
+unfoldable pub ignoresSize : ℕ → Bool
+ignoresSize kind = ((((eqb kind 0 || eqb kind 15) || eqb kind 16) || eqb kind 17) || eqb kind 20) || eqb kind 21
+
+-- the size as far as it counts: an Ack's only if its pairs are whole
+unfoldable pub counted : ℕ → ℕ → ℕ
+counted kind size = cond (ignoresSize kind || (eqb kind 12 && eqb (size % 2) 0)) 0 size
+
+-- the bytes that a sound body takes
+unfoldable pub bodyLength : ℕ → ℕ → ℕ
+bodyLength kind size = atLeast (floorOf kind) (counted kind size)
+
+-- the tests of RouterInfo, FollowOnFragment and Address
+unfoldable pub tested : ℕ → ℕ → Bool
+tested kind size =
+    cond (eqb kind 2) (ltb 2 size)
+    (cond (eqb kind 5) (ltb 5 size)
+    (cond (eqb kind 13) (eqb size 6 || eqb size 18)
+    true))
+
+-- a body whose bytes are there passes its tests; I2NP takes size 9, FirstFragment 10
+unfoldable pub sound : List ℕ → ℕ → ℕ → ℕ → Bool
+sound s body kind size =
+    cond (eqb kind 3 || eqb kind 4) (leb (6 + kind) size && listed (getD s body 0))
+    (tested kind size)
