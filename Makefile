@@ -1,6 +1,7 @@
 # make list: the blocks of a payload. make test: the format, then the whole gate. make bench: both sides timed in one run.
-# make second: the library beside an independent program of the rules; WORDS="-l" for the long round.
-.PHONY: list test second bench
+# make calls: the C calls, and a short round of any bytes. make fuzz: ten million. make rust: the crate's tests.
+# make second: the library beside an independent program of the rules; WORDS=-l for the long round.
+.PHONY: list test bench calls fuzz rust second
 
 # a sample unless FILE names a payload
 FILE = crates/lister/stdin
@@ -14,10 +15,24 @@ list:
 
 test:
 	rt fmt --check
+	tests/c/run
+	tests/second/run
 	rt ci
-
-second:
-	@tests/second/run $(WORDS)
 
 bench:
 	bench/run
+
+calls:
+	tests/c/run
+
+# another SEED, other bytes
+SEED = 1
+
+fuzz:
+	tests/c/run fuzz $(SEED) 10000000
+
+rust:
+	rust/run
+
+second:
+	tests/second/run $(WORDS)

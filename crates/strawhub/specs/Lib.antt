@@ -5,3 +5,4 @@ pub mod BlockNumbers
 pub mod BlockFields
 pub mod Deliveries
 pub mod Trackers
+pub mod Listings

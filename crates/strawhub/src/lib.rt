@@ -3,6 +3,7 @@ pub mod block_reads;
 pub mod block_writes;
 pub mod deliveries;
 pub mod headers;
+pub mod listings;
 pub mod outcomes;
 pub mod stores;
 pub mod trackers;

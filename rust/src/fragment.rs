@@ -1,0 +1,266 @@
+//! The pieces of I2NP messages, put together.
+
+use crate::{ffi, Refusal, RefusedAt};
+
+/// The bytes of a store's record.
+pub const RECORD: usize = 8_576;
+
+/// The bytes of a store's room.
+pub const ROOM: usize = 1_048_560;
+
+/// The bytes of a message at most, and so of an assembly buffer that is always enough.
+pub const MESSAGE: usize = 65_535;
+
+/// The bytes of all three.
+pub const STORAGE: usize = RECORD + ROOM + MESSAGE;
+
+/// An I2NP message, its bytes a part of what it came in.
+#[derive(Debug, Clone, Copy, PartialEq, Eq, Hash)]
+pub struct Message<'a> {
+    /// Its type.
+    pub message_type: u8,
+
+    /// Its id.
+    pub message_id: u32,
+
+    /// When it lapses, in seconds of Unix time.
+    pub expiration: u32,
+
+    /// Its bytes.
+    pub payload: &'a [u8],
+}
+
+/// What a block delivers.
+#[derive(Debug, Clone, Copy, PartialEq, Eq)]
+pub enum Delivered<'a> {
+    /// Nothing: a piece was kept, or the block is none that carries a message.
+    Nothing,
+
+    /// The whole message that an I2NP block has, as a part of the payload.
+    Whole(Message<'a>),
+
+    /// The message that a piece finished, as a part of the assembly buffer.
+    Rebuilt(Message<'a>),
+}
+
+impl<'a> Delivered<'a> {
+    /// The message, whole or rebuilt.
+    pub fn message(self) -> Option<Message<'a>> {
+        match self {
+            Delivered::Nothing => None,
+            Delivered::Whole(message) | Delivered::Rebuilt(message) => Some(message),
+        }
+    }
+}
+
+/// All bytes that a [`FragmentHandler`] needs: in itself, for a static, or over a `Vec`, a `Box` or a slice.
+///
+/// ```
+/// use std::sync::Mutex;
+/// use strawhub::{FragmentStorage, STORAGE};
+///
+/// // all zero is empty: this takes no room in the program's file
+/// static PIECES: Mutex<FragmentStorage> = Mutex::new(FragmentStorage::new());
+///
+/// let mut storage = PIECES.lock().unwrap();
+/// assert_eq!(storage.handler().first_fragment(20, 7, 9, 100, b"ab"), Ok(None));
+/// let mut handler = storage.handler();
+/// let letter = handler.follow_on_fragment(7, 1, true, 101, b"cd")?.unwrap();
+/// assert_eq!((letter.message_type, letter.expiration, letter.payload), (20, 9, &b"abcd"[..]));
+///
+/// // on the heap
+/// let mut storage = FragmentStorage::over(vec![0; STORAGE])?;
+/// assert_eq!(storage.handler().first_fragment(20, 7, 9, 100, b"ab"), Ok(None));
+/// # Ok::<(), strawhub::Refusal>(())
+/// ```
+pub struct FragmentStorage<B = [u8; STORAGE]> {
+    bytes: B,
+}
+
+impl FragmentStorage {
+    /// Storage with no message open, for a static. These are 1,122,671 bytes: more than a thread's stack may have
+    /// left.
+    pub const fn new() -> Self {
+        FragmentStorage { bytes: [0; STORAGE] }
+    }
+}
+
+impl<B: AsMut<[u8]>> FragmentStorage<B> {
+    /// Storage over bytes of your own, with no message open. Refuses less than [`STORAGE`] of them (59).
+    pub fn over(mut bytes: B) -> Result<Self, Refusal> {
+        if bytes.as_mut().len() < STORAGE {
+            return Err(Refusal::LentShort);
+        }
+        let mut storage = FragmentStorage { bytes };
+        Refusal::check(ffi::store_new(storage.handler().record).into())?;
+        Ok(storage)
+    }
+
+    /// A handler that goes on where the last one left.
+    pub fn handler(&mut self) -> FragmentHandler<'_> {
+        let (record, rest) = self.bytes.as_mut().split_at_mut(RECORD);
+        let (room, assembly) = rest.split_at_mut(ROOM);
+        FragmentHandler { record, room, assembly }
+    }
+}
+
+impl Default for FragmentStorage {
+    fn default() -> Self {
+        Self::new()
+    }
+}
+
+/// Keeps the pieces of at most 16 open messages, and gives a message out when its
+/// last number is known and every number up to it is held.
+///
+/// A piece comes with the present second. [`FragmentHandler::sweep`] drops what was opened 30 seconds
+/// ago or more.
+///
+/// ```
+/// use strawhub::{FragmentStorage, Refusal, STORAGE};
+///
+/// let mut storage = FragmentStorage::over(vec![0; STORAGE])?;
+/// let mut handler = storage.handler();
+/// handler.first_fragment(20, 7, 9, 100, b"a")?;
+/// handler.follow_on_fragment(7, 2, true, 100, b"c")?;
+/// // three pieces are not a letter of three: 5 is above the last number
+/// assert_eq!(handler.follow_on_fragment(7, 5, false, 100, b"f"), Err(Refusal::PieceConflict));
+/// let letter = handler.follow_on_fragment(7, 1, false, 100, b"b")?.unwrap();
+/// assert_eq!(letter.payload, b"abc");
+/// # Ok::<(), Refusal>(())
+/// ```
+pub struct FragmentHandler<'a> {
+    record: &'a mut [u8],
+    room: &'a mut [u8],
+    assembly: &'a mut [u8],
+}
+
+impl<'a> FragmentHandler<'a> {
+    /// An empty handler over lent bytes: a record of [`RECORD`], a room of [`ROOM`], and an assembly
+    /// buffer, which is always long enough with [`MESSAGE`]. Refuses a short record or room (59).
+    ///
+    /// ```
+    /// use strawhub::{FragmentHandler, Refusal, MESSAGE, RECORD, ROOM};
+    ///
+    /// let (mut record, mut room, mut assembly) = (vec![0; RECORD], vec![0; ROOM], vec![0; MESSAGE]);
+    /// let mut handler = FragmentHandler::new(&mut record, &mut room, &mut assembly)?;
+    /// assert_eq!(handler.first_fragment(20, 7, 9, 100, b"ab"), Ok(None));
+    ///
+    /// // the bytes hold the message, and another handler can go on with them
+    /// let mut handler = FragmentHandler::resume(&mut record, &mut room, &mut assembly)?;
+    /// assert_eq!(handler.first_fragment(20, 7, 9, 100, b"ab"), Err(Refusal::PieceAgain));
+    /// # Ok::<(), Refusal>(())
+    /// ```
+    pub fn new(record: &'a mut [u8], room: &'a mut [u8], assembly: &'a mut [u8]) -> Result<Self, Refusal> {
+        let handler = Self::resume(record, room, assembly)?;
+        Refusal::check(ffi::store_new(handler.record).into())?;
+        Ok(handler)
+    }
+
+    /// A handler over lent bytes that go on as the last handler left them. Refuses a short record or
+    /// room (59).
+    pub fn resume(record: &'a mut [u8], room: &'a mut [u8], assembly: &'a mut [u8]) -> Result<Self, Refusal> {
+        if record.len() < RECORD || room.len() < ROOM {
+            return Err(Refusal::LentShort);
+        }
+        Ok(FragmentHandler { record, room, assembly })
+    }
+
+    /// A first piece came. Gives the message if no other was missing.
+    ///
+    /// Refuses with 50 or 52 to 56.
+    pub fn first_fragment(
+        &mut self,
+        message_type: u8,
+        message_id: u32,
+        expiration: u32,
+        second: u64,
+        payload: &[u8],
+    ) -> Result<Option<Message<'_>>, Refusal> {
+        let reply = ffi::store_first(self.store(), message_id, message_type, expiration, second, payload);
+        self.finished(message_id, reply)
+    }
+
+    /// A follow-on piece came. Gives the message if no other was missing.
+    ///
+    /// Refuses with 50 to 56.
+    pub fn follow_on_fragment(
+        &mut self,
+        message_id: u32,
+        sequence: u8,
+        last: bool,
+        second: u64,
+        payload: &[u8],
+    ) -> Result<Option<Message<'_>>, Refusal> {
+        let reply = ffi::store_follow_on(self.store(), message_id, sequence, last, second, payload);
+        self.finished(message_id, reply)
+    }
+
+    /// Drops exactly the messages whose opening piece came 30 seconds before this one or earlier.
+    pub fn sweep(&mut self, second: u64) {
+        ffi::store_sweep(self.record, second);
+    }
+
+    /// What the block at a place of a payload delivers. Refuses as [`Block::read`] does, or as the
+    /// store refuses the piece that the block has.
+    ///
+    /// [`Block::read`]: crate::Block::read
+    ///
+    /// ```
+    /// use strawhub::{Block, Delivered, FragmentStorage, Message, STORAGE};
+    ///
+    /// let message = Message { message_type: 11, message_id: 7, expiration: 9, payload: b"letter" };
+    /// let mut payload = [0; 32];
+    /// let length = Block::I2Np { message }.write(&mut payload)?;
+    ///
+    /// let mut storage = FragmentStorage::over(vec![0; STORAGE])?;
+    /// let mut handler = storage.handler();
+    /// let delivered = handler.deliver(&payload[..length], 0, 100)?;
+    /// assert_eq!(delivered, Delivered::Whole(message));
+    /// # Ok::<(), strawhub::Refusal>(())
+    /// ```
+    pub fn deliver<'m>(&'m mut self, payload: &'m [u8], at: usize, second: u64) -> Result<Delivered<'m>, RefusedAt> {
+        let mut told = [0; 6];
+        let outcome = ffi::block_deliver(payload, at, self.store(), second, &mut told);
+        if outcome.number != 0 && outcome.number != FINISHED {
+            let refusal = Refusal::of(outcome.number);
+            return Err(RefusedAt { refusal, place: at });
+        }
+        let [stands, message_type, message_id, expiration, start, length] = told;
+        let message = |bytes: &'m [u8]| Message {
+            message_type: message_type as u8,
+            message_id: message_id as u32,
+            expiration: expiration as u32,
+            payload: &bytes[start as usize..][..length as usize],
+        };
+        Ok(match stands {
+            IN_PAYLOAD => Delivered::Whole(message(payload)),
+            IN_ASSEMBLY => Delivered::Rebuilt(message(self.assembly)),
+            _ => Delivered::Nothing,
+        })
+    }
+
+    fn store(&mut self) -> ffi::Store<'_> {
+        ffi::Store { record: self.record, room: self.room, out: self.assembly }
+    }
+
+    /// A reply as the message that it finished, none, or the refusal.
+    fn finished(&self, message_id: u32, reply: ffi::Reply) -> Result<Option<Message<'_>>, Refusal> {
+        if u64::from(reply.number) != FINISHED {
+            return Refusal::check(reply.number.into()).map(|()| None);
+        }
+        Ok(Some(Message {
+            message_type: reply.kind,
+            message_id,
+            expiration: reply.expires,
+            payload: &self.assembly[..reply.length],
+        }))
+    }
+}
+
+/// The answer that a message is finished.
+const FINISHED: u64 = 60;
+
+/// Where a delivered message stands.
+const IN_PAYLOAD: u64 = 1;
+const IN_ASSEMBLY: u64 = 2;

@@ -1,0 +1,431 @@
+/* Each call of strawhub.h: what it answers, what it writes, and that a refusal leaves every lent byte. */
+#include "strawhub.h"
+
+#include <stdio.h>
+#include <string.h>
+
+static unsigned passed, failed;
+
+static void check(int holds, const char *what)
+{
+	if (holds) {
+		passed++;
+		return;
+	}
+	failed++;
+	printf("failed: %s\n", what);
+}
+
+#define CHECK(holds) check((holds) != 0, #holds)
+
+/* Whether n bytes all have a value. */
+static int all(const void *bytes, size_t n, int value)
+{
+	const uint8_t *b = bytes;
+	size_t i;
+	for (i = 0; i < n; i++)
+		if (b[i] != value)
+			return 0;
+	return 1;
+}
+
+static int is(struct strawhub_outcome o, uint64_t number, uint64_t value)
+{
+	return o.number == number && o.value == value;
+}
+
+static const uint8_t key1[32] = {1}, key2[32] = {2};
+
+/* RFC 8439, 2.3.2. */
+static void keystream(void)
+{
+	static const uint8_t nonce[12] = {0, 0, 0, 9, 0, 0, 0, 0x4a, 0, 0, 0, 0};
+	static const uint8_t start[8] = {0x10, 0xf1, 0xe7, 0xe4, 0xd1, 0x3b, 0x59, 0x15};
+	uint8_t key[32], out[64];
+	int i;
+	for (i = 0; i < 32; i++)
+		key[i] = (uint8_t)i;
+	strawhub_keystream(key, 1, nonce, out);
+	CHECK(memcmp(out, start, sizeof start) == 0);
+	CHECK(out[63] == 0x4e);
+}
+
+static uint32_t write_header(uint8_t *packet, size_t length, uint8_t kind, uint32_t number, uint8_t version,
+                             uint8_t fragment)
+{
+	return strawhub_header_write(packet, length, key1, key2, kind, 77, number, version, 2, 88, 99, fragment, 3, 0xff);
+}
+
+/* A packet that is not written, with its refusal. */
+static int refuses_to_write(uint32_t refusal, size_t length, uint8_t kind, uint32_t number, uint8_t version,
+                            uint8_t fragment)
+{
+	uint8_t packet[128];
+	memset(packet, 0x5a, sizeof packet);
+	return write_header(packet, length, kind, number, version, fragment) == refusal &&
+	       all(packet, sizeof packet, 0x5a);
+}
+
+static void header_write(void)
+{
+	uint8_t packet[128];
+	memset(packet, 0x5a, sizeof packet);
+	CHECK(write_header(packet, 88, 0, 5, 2, 0) == 0);
+	CHECK(!all(packet, 64, 0x5a));
+	CHECK(all(packet + 64, 64, 0x5a));
+	CHECK(refuses_to_write(21, 88, 3, 5, 2, 0));
+	CHECK(refuses_to_write(22, 88, 0, 5, 5, 0));
+	CHECK(refuses_to_write(24, 88, 2, 5, 2, 0));
+	CHECK(refuses_to_write(25, 88, 2, 0, 2, 16));
+	CHECK(refuses_to_write(20, 87, 0, 5, 2, 0));
+	CHECK(refuses_to_write(20, 0, 6, 5, 0, 0));
+}
+
+/* A packet that is not read, with its refusal: masks are XORs, so bits changed under them are changed in the plain
+ * header, here the lowest byte of the number, the type and the version. */
+static int refuses_to_read(uint32_t refusal, size_t length, uint8_t kind, uint8_t type_bits, uint8_t version_bits,
+                           uint8_t number_bits)
+{
+	uint8_t packet[128], before[128];
+	uint64_t out[11];
+	memset(packet, 0x5a, sizeof packet);
+	memset(out, 0x77, sizeof out);
+	if (write_header(packet, length, kind, 0, 2, 0) != 0)
+		return 0;
+	packet[11] ^= number_bits;
+	packet[12] ^= type_bits;
+	packet[13] ^= version_bits;
+	memcpy(before, packet, sizeof packet);
+	return strawhub_header_read(packet, length, key1, key2, out) == refusal &&
+	       memcmp(packet, before, sizeof packet) == 0 && all(out, sizeof out, 0x77);
+}
+
+static void header_read(void)
+{
+	static const uint64_t request[11] = {0, 2, 2, 0, 0, 0, 5, 77, 88, 99, 32};
+	static const uint64_t data[11] = {6, 0, 0, 0, 0, 1, 5, 77, 0, 0, 0};
+	uint8_t packet[128];
+	uint64_t out[11];
+	memset(packet, 0x5a, sizeof packet);
+	CHECK(write_header(packet, 100, 0, 5, 2, 0) == 0);
+	CHECK(strawhub_header_read(packet, 100, key1, key2, out) == 0);
+	CHECK(memcmp(out, request, sizeof out) == 0);
+	CHECK(all(packet + 32, 96, 0x5a));
+	CHECK(write_header(packet, 40, 6, 5, 0, 0) == 0);
+	CHECK(strawhub_header_read(packet, 40, key1, key2, out) == 0);
+	CHECK(memcmp(out, data, sizeof out) == 0);
+	memset(packet, 0x5a, sizeof packet);
+	CHECK(strawhub_header_read(packet, 39, key1, key2, out) == 20);
+	CHECK(all(packet, sizeof packet, 0x5a) && memcmp(out, data, sizeof out) == 0);
+	CHECK(refuses_to_read(21, 64, 6, 6 ^ 3, 0, 0));
+	CHECK(refuses_to_read(22, 64, 9, 0, 2 ^ 5, 0));
+	CHECK(refuses_to_read(23, 63, 9, 9 ^ 1, 0, 0));
+	CHECK(refuses_to_read(24, 64, 2, 0, 0, 1));
+}
+
+/* DateTime, Congestion, Padding; then the first fragment "ab" of message 7. */
+static const uint8_t payload[] = {0, 0, 4, 0x65, 0x53, 0xf1, 0, 21, 0, 1, 1, 254, 0, 2, 0, 0, 4, 0, 11, 20, 0, 0, 0, 7,
+                                  0, 0, 0, 9, 'a', 'b'};
+
+/* A block that is not read, with its refusal at 0. */
+static int refuses_block(uint64_t refusal, const uint8_t *block, size_t length)
+{
+	uint64_t out[12];
+	memset(out, 0x77, sizeof out);
+	return is(strawhub_block_read(block, length, 0, out), refusal, 0) && all(out, sizeof out, 0x77);
+}
+
+static void block_read(void)
+{
+	static const uint64_t piece[12] = {4, 11, 28, 2, 20, 7, 9};
+	static const uint8_t short_time[] = {0, 0, 4, 0, 0, 7}, info[] = {2, 0, 2, 0, 0};
+	static const uint8_t unlisted[] = {4, 0, 9, 4, 0, 0, 0, 1, 0, 0, 0, 2};
+	static const uint8_t first[] = {4, 0, 9, 11, 0, 0, 0, 1, 0, 0, 0, 2};
+	static const uint8_t first10[] = {4, 0, 10, 11, 0, 0, 0, 1, 0, 0, 0, 2};
+	static const uint8_t next[] = {5, 0, 5, 3, 0, 0, 0, 1}, next6[] = {5, 0, 6, 3, 0, 0, 0, 1};
+	static const uint8_t address[] = {13, 0, 7, 0x1f, 0x90}, i2np[] = {3, 0, 8};
+	uint64_t out[12];
+	CHECK(is(strawhub_block_read(payload, sizeof payload, 16, out), 0, 30));
+	CHECK(memcmp(out, piece, sizeof out) == 0);
+	CHECK(is(strawhub_block_read(payload, sizeof payload, 30, out), 1, 30));
+	CHECK(memcmp(out, piece, sizeof out) == 0);
+	CHECK(is(strawhub_block_read(NULL, 0, 0, out), 1, 0));
+	CHECK(is(strawhub_block_read(payload, sizeof payload, SIZE_MAX, out), 1, SIZE_MAX));
+	CHECK(refuses_block(1, short_time, sizeof short_time));
+	CHECK(refuses_block(2, info, sizeof info));
+	CHECK(refuses_block(3, unlisted, sizeof unlisted));
+	CHECK(refuses_block(4, first, sizeof first));
+	CHECK(refuses_block(5, first10, sizeof first10));
+	CHECK(refuses_block(6, next, sizeof next));
+	CHECK(refuses_block(7, next6, sizeof next6));
+	CHECK(refuses_block(8, address, sizeof address));
+	CHECK(refuses_block(9, i2np, sizeof i2np));
+}
+
+/* A block that is not written, with its refusal. */
+static int refuses_room(uint64_t refusal, size_t room_len, uint8_t kind, uint64_t field, size_t bytes_len)
+{
+	static uint8_t room[65600], bytes[65600];
+	uint64_t fields[8] = {0};
+	fields[0] = field;
+	memset(room, 0x5a, sizeof room);
+	return strawhub_block_write(room, room_len, kind, fields, bytes, bytes_len).number == refusal &&
+	       all(room, sizeof room, 0x5a);
+}
+
+static void block_write(void)
+{
+	static const uint64_t ack[8] = {10, 2}, time[8] = {7};
+	static const uint8_t pairs[2] = {1, 3}, block[10] = {12, 0, 7, 0, 0, 0, 10, 2, 1, 3};
+	uint8_t room[16];
+	memset(room, 0x5a, sizeof room);
+	CHECK(is(strawhub_block_write(room, sizeof room, 12, ack, pairs, 2), 0, 10));
+	CHECK(memcmp(room, block, 10) == 0);
+	CHECK(all(room + 10, 6, 0x5a));
+	CHECK(is(strawhub_block_write(room, 7, 0, time, pairs, 2), 0, 7));
+	CHECK(room[2] == 4 && room[6] == 7);
+	CHECK(refuses_room(32, 65600, 2, 0, 0));
+	CHECK(refuses_room(32, 65600, 0, (uint64_t)1 << 32, 0));
+	CHECK(refuses_room(32, 65600, 5, 128, 1));
+	CHECK(refuses_room(32, 65600, 12, 0, 1));
+	CHECK(refuses_room(32, 65600, 13, 0, 5));
+	CHECK(refuses_room(31, 65600, 254, 0, 65536));
+	CHECK(refuses_room(30, 6, 0, 7, 0));
+	CHECK(refuses_room(30, 0, 254, 0, 0));
+}
+
+static void block_list(void)
+{
+	struct strawhub_entry list[6], before[6];
+	memset(list, 0x77, sizeof list);
+	memcpy(before, list, sizeof list);
+	CHECK(is(strawhub_block_list(payload, sizeof payload, list, 3), 10, 16));
+	CHECK(is(strawhub_block_list(payload, sizeof payload - 1, list, 6), 5, 16));
+	CHECK(is(strawhub_block_list(NULL, 0, list, 6), 1, 0));
+	CHECK(memcmp(list, before, sizeof list) == 0);
+	CHECK(is(strawhub_block_list(payload, sizeof payload, list, 6), 0, 4));
+	CHECK(list[1].place == 7 && list[1].kind == 21 && list[1].size == 1);
+	CHECK(list[3].place == 16 && list[3].kind == 4 && list[3].size == 11);
+	CHECK(memcmp(list + 4, before + 4, 2 * sizeof list[0]) == 0);
+}
+
+/* A tracker with the highest number 400, and 200 received. */
+static void two_seen(uint8_t tracker[STRAWHUB_TRACKER])
+{
+	CHECK(strawhub_tracker_new(tracker, STRAWHUB_TRACKER) == 0);
+	CHECK(all(tracker, STRAWHUB_TRACKER, 0));
+	CHECK(strawhub_tracker_register(tracker, STRAWHUB_TRACKER, 200) == 0);
+	CHECK(strawhub_tracker_register(tracker, STRAWHUB_TRACKER, 400) == 0);
+}
+
+static void tracker_register(void)
+{
+	uint8_t tracker[STRAWHUB_TRACKER], before[STRAWHUB_TRACKER];
+	memset(tracker, 0x5a, sizeof tracker);
+	CHECK(strawhub_tracker_new(tracker, STRAWHUB_TRACKER - 1) == 59);
+	CHECK(all(tracker, sizeof tracker, 0x5a));
+	two_seen(tracker);
+	memcpy(before, tracker, sizeof tracker);
+	CHECK(strawhub_tracker_register(tracker, STRAWHUB_TRACKER, 656) == 40);
+	CHECK(strawhub_tracker_register(tracker, STRAWHUB_TRACKER, 145) == 42);
+	CHECK(strawhub_tracker_register(tracker, STRAWHUB_TRACKER, 400) == 43);
+	CHECK(strawhub_tracker_register(tracker, STRAWHUB_TRACKER - 1, 401) == 59);
+	CHECK(memcmp(tracker, before, sizeof tracker) == 0);
+	CHECK(strawhub_tracker_duplicate(tracker, STRAWHUB_TRACKER, 200) == 1);
+	CHECK(strawhub_tracker_duplicate(tracker, STRAWHUB_TRACKER, 201) == 0);
+	CHECK(strawhub_tracker_duplicate(tracker, STRAWHUB_TRACKER, 0) == 0);
+	CHECK(strawhub_tracker_duplicate(tracker, 3, 200) == 59);
+	CHECK(memcmp(tracker, before, sizeof tracker) == 0);
+}
+
+static void tracker_report(void)
+{
+	static const uint64_t numbers[3] = {400, 0, 4};
+	static const uint8_t runs[4] = {199, 1, 54, 0};
+	uint8_t tracker[STRAWHUB_TRACKER] = {0}, pairs[254];
+	uint64_t out[3];
+	memset(out, 0x77, sizeof out);
+	memset(pairs, 0x77, sizeof pairs);
+	CHECK(strawhub_tracker_report(tracker, STRAWHUB_TRACKER, out, pairs) == 41);
+	CHECK(strawhub_tracker_report(tracker, 258, out, pairs) == 59);
+	CHECK(all(out, sizeof out, 0x77) && all(pairs, sizeof pairs, 0x77));
+	two_seen(tracker);
+	CHECK(strawhub_tracker_report(tracker, STRAWHUB_TRACKER, out, pairs) == 0);
+	CHECK(memcmp(out, numbers, sizeof out) == 0);
+	CHECK(memcmp(pairs, runs, sizeof runs) == 0 && all(pairs + 4, 250, 0));
+}
+
+static void tracker_ack_block(void)
+{
+	static const uint8_t block[12] = {12, 0, 9, 0, 0, 1, 0x90, 0, 199, 1, 54, 0};
+	uint8_t tracker[STRAWHUB_TRACKER] = {0}, room[16];
+	memset(room, 0x5a, sizeof room);
+	CHECK(is(strawhub_tracker_ack_block(tracker, STRAWHUB_TRACKER, room, sizeof room), 41, 0));
+	two_seen(tracker);
+	CHECK(is(strawhub_tracker_ack_block(tracker, 258, room, sizeof room), 59, 0));
+	CHECK(is(strawhub_tracker_ack_block(tracker, STRAWHUB_TRACKER, room, 11), 30, 0));
+	CHECK(all(room, sizeof room, 0x5a));
+	CHECK(is(strawhub_tracker_ack_block(tracker, STRAWHUB_TRACKER, room, sizeof room), 0, 12));
+	CHECK(memcmp(room, block, sizeof block) == 0 && all(room + 12, 4, 0x5a));
+}
+
+static void ack_expand(void)
+{
+	static const uint8_t pairs[3] = {1, 3, 7}; /* an odd last byte is dropped */
+	static const uint32_t named[6] = {10, 9, 8, 6, 5, 4};
+	uint32_t list[8];
+	memset(list, 0x77, sizeof list);
+	CHECK(strawhub_ack_expand(10, 11, NULL, 0, list, 8).number == 44);
+	CHECK(strawhub_ack_expand(10, 2, pairs, 3, list, 5).number == 46);
+	CHECK(all(list, sizeof list, 0x77));
+	CHECK(strawhub_ack_expand(10, 2, pairs, 3, list, 8).number == 0);
+	CHECK(strawhub_ack_expand(10, 2, pairs, 3, list, 6).count == 6);
+	CHECK(memcmp(list, named, sizeof named) == 0 && all(list + 6, 8, 0x77));
+}
+
+/* A store and a copy of it. */
+static struct store {
+	uint8_t record[STRAWHUB_RECORD], room[STRAWHUB_ROOM], out[STRAWHUB_MESSAGE];
+} store, copy;
+
+static struct strawhub_reply first_of(uint32_t id, const char *bytes, size_t length)
+{
+	return strawhub_store_first(store.record, sizeof store.record, store.room, sizeof store.room, store.out,
+	                            sizeof store.out, id, 20, 9, 100, (const uint8_t *)bytes, length);
+}
+
+static struct strawhub_reply next_of(uint32_t id, uint8_t number, uint8_t last, const char *bytes, size_t length)
+{
+	return strawhub_store_follow_on(store.record, sizeof store.record, store.room, sizeof store.room, store.out,
+	                                sizeof store.out, id, number, last, 100, (const uint8_t *)bytes, length);
+}
+
+static int unchanged(void)
+{
+	return memcmp(&store, &copy, sizeof store) == 0;
+}
+
+static void store_new(void)
+{
+	memset(&store, 0x5a, sizeof store);
+	CHECK(strawhub_store_new(store.record, STRAWHUB_RECORD - 1) == 59);
+	CHECK(all(store.record, STRAWHUB_RECORD, 0x5a));
+	CHECK(strawhub_store_new(store.record, STRAWHUB_RECORD) == 0);
+	CHECK(all(store.record, STRAWHUB_RECORD, 0));
+}
+
+/* The request's story: pieces 0, 2 (the last) and 5 are no letter of three. */
+static void story(void)
+{
+	struct strawhub_reply r;
+	store_new();
+	CHECK(first_of(7, "a", 1).number == 0);
+	CHECK(next_of(7, 2, 0xff, "c", 1).number == 0);
+	copy = store;
+	CHECK(next_of(7, 5, 0, "f", 1).number == 55 && unchanged());
+	r = next_of(7, 1, 0, "b", 1);
+	CHECK(r.number == STRAWHUB_FINISHED && r.kind == 20 && r.expires == 9 && r.length == 3);
+	CHECK(memcmp(store.out, "abc", 3) == 0 && all(store.out + 3, sizeof store.out - 3, 0x5a));
+}
+
+static void store_pieces(void)
+{
+	static char page[1501];
+	uint32_t id;
+	store_new();
+	for (id = 0; id < 16; id++)
+		CHECK(next_of(id, 2, 1, "c", 1).number == 0);
+	CHECK(next_of(15, 1, 0, page, 1500).number == 0);
+	copy = store;
+	CHECK(next_of(0, 1, 0, page, 0).number == 50 && unchanged());
+	CHECK(first_of(0, page, 1501).number == 50 && unchanged());
+	CHECK(next_of(0, 0, 0, page, 1).number == 51 && unchanged());
+	CHECK(next_of(0, 128, 0, page, 1).number == 51 && unchanged());
+	CHECK(first_of(16, page, 1).number == 52 && unchanged());
+	CHECK(next_of(0, 2, 1, "c", 1).number == 54 && unchanged());
+	CHECK(next_of(0, 2, 0, "c", 1).number == 55 && unchanged());
+	CHECK(next_of(15, 1, 0, page, 1500).number == 54 && unchanged());
+	CHECK(strawhub_store_first(store.record, STRAWHUB_RECORD, store.room, STRAWHUB_ROOM, store.out, 1501, 15, 20, 9, 100,
+	                           (const uint8_t *)page, 1).number == 56 && unchanged());
+	CHECK(strawhub_store_first(store.record, STRAWHUB_RECORD - 1, store.room, STRAWHUB_ROOM, store.out, 9, 0, 20, 9, 100,
+	                           (const uint8_t *)page, 1).number == 59 && unchanged());
+	CHECK(strawhub_store_follow_on(store.record, STRAWHUB_RECORD, store.room, STRAWHUB_ROOM - 1, store.out, 9, 0, 1, 0,
+	                               100, (const uint8_t *)page, 1).number == 59 && unchanged());
+}
+
+static void store_long(void)
+{
+	static char page[1500];
+	uint8_t n;
+	store_new();
+	for (n = 1; n < 44; n++)
+		CHECK(next_of(1, n, 0, page, 1500).number == 0);
+	copy = store;
+	CHECK(first_of(1, page, 1036).number == 53 && unchanged());
+	CHECK(first_of(1, page, 1035).number == 0);
+}
+
+static void store_sweep(void)
+{
+	store_new();
+	CHECK(first_of(7, "a", 1).number == 0);
+	copy = store;
+	CHECK(strawhub_store_sweep(store.record, STRAWHUB_RECORD, 129) == 0 && unchanged());
+	CHECK(strawhub_store_sweep(store.record, STRAWHUB_RECORD, 99) == 0 && unchanged());
+	CHECK(strawhub_store_sweep(store.record, STRAWHUB_RECORD - 1, 200) == 0 && unchanged());
+	CHECK(strawhub_store_sweep(store.record, STRAWHUB_RECORD, 130) == 0 && !unchanged());
+	CHECK(first_of(7, "b", 1).number == 0);
+}
+
+static struct strawhub_outcome deliver(const uint8_t *block, size_t length, size_t at, uint64_t told[6])
+{
+	return strawhub_block_deliver(block, length, at, store.record, sizeof store.record, store.room, sizeof store.room,
+	                              store.out, sizeof store.out, 100, told);
+}
+
+static void block_deliver(void)
+{
+	static const uint8_t last[] = {5, 0, 7, 3, 0, 0, 0, 7, 'c', 'd'};
+	static const uint8_t whole[] = {3, 0, 11, 11, 0, 0, 0, 5, 0, 0, 0, 6, 'h', 'i'};
+	static const uint64_t none[6], rebuilt[6] = {2, 20, 7, 9, 0, 4}, in_payload[6] = {1, 11, 5, 6, 12, 2};
+	uint64_t told[6];
+	store_new();
+	memset(told, 0x77, sizeof told);
+	copy = store;
+	CHECK(is(deliver(payload, sizeof payload - 1, 16, told), 5, 16));
+	CHECK(is(deliver(payload, sizeof payload, 30, told), 1, 30));
+	CHECK(all(told, sizeof told, 0x77) && unchanged());
+	CHECK(deliver(payload, sizeof payload, 0, told).number == 0);
+	CHECK(memcmp(told, none, sizeof told) == 0 && unchanged());
+	CHECK(deliver(whole, sizeof whole, 0, told).number == 0);
+	CHECK(memcmp(told, in_payload, sizeof told) == 0 && unchanged());
+	CHECK(deliver(payload, sizeof payload, 16, told).number == 0);
+	CHECK(memcmp(told, none, sizeof told) == 0);
+	copy = store;
+	memset(told, 0x77, sizeof told);
+	CHECK(is(deliver(payload, sizeof payload, 16, told), 54, 0));
+	CHECK(all(told, sizeof told, 0x77) && unchanged());
+	CHECK(deliver(last, sizeof last, 0, told).number == STRAWHUB_FINISHED);
+	CHECK(memcmp(told, rebuilt, sizeof told) == 0 && memcmp(store.out, "abcd", 4) == 0);
+}
+
+int main(void)
+{
+	keystream();
+	header_write();
+	header_read();
+	block_read();
+	block_write();
+	block_list();
+	tracker_register();
+	tracker_report();
+	tracker_ack_block();
+	ack_expand();
+	story();
+	store_pieces();
+	store_long();
+	store_sweep();
+	block_deliver();
+	printf("calls: %u passed, %u failed\n", passed, failed);
+	return failed != 0;
+}

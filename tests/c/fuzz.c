@@ -1,0 +1,909 @@
+/* Any bytes to every call: fuzz SEED CALLS.
+ *
+ * Every lent slice stands flush against a page that cannot be touched, before it or after it, so that a byte too far
+ * stops the run. After a refusal all lent bytes are compared with a copy; after a success those that the call may
+ * not write, and what it says that it left. Trackers and stores go on from call to call, some of them forged. */
+#define _DEFAULT_SOURCE
+#include "strawhub.h"
+
+#include <signal.h>
+#include <stdio.h>
+#include <stdlib.h>
+#include <string.h>
+#include <sys/mman.h>
+#include <unistd.h>
+
+#define PAGE 4096
+#define BESIDE 64 /* bytes beside a slice that are looked at too */
+#define CANARY 0xa7
+
+static const char *call = "";
+static unsigned long long seed, calls, total;
+static unsigned long long answered[64];
+
+static void stop(const char *why)
+{
+	fprintf(stderr, "fuzz: %s: %s, at call %llu of seed %llu\n", call, why, calls, seed);
+	_exit(1);
+}
+
+/* ---- numbers from the seed: xorshift64* ---- */
+
+static uint64_t state;
+
+static uint64_t any(void)
+{
+	state ^= state >> 12;
+	state ^= state << 25;
+	state ^= state >> 27;
+	return state * 0x2545f4914f6cdd1dULL;
+}
+
+static size_t below(size_t n)
+{
+	return (size_t)((any() >> 11) % n);
+}
+
+static int one_in(size_t n)
+{
+	return below(n) == 0;
+}
+
+static void any_bytes(uint8_t *at, size_t n)
+{
+	size_t i;
+	uint64_t x = 0;
+	for (i = 0; i < n; i++) {
+		x = i % 8 ? x >> 8 : any();
+		at[i] = (uint8_t)x;
+	}
+}
+
+/* Some bytes changed. */
+static void mutate(uint8_t *at, size_t n)
+{
+	size_t left = n ? 1 + below(6) : 0;
+	while (left--)
+		at[below(n)] ^= (uint8_t)(1u << below(8));
+}
+
+/* ---- lent slices ---- */
+
+struct fence {
+	size_t size;           /* the longest slice */
+	uint8_t *start, *copy; /* whole pages between two that cannot be touched; what the slice held */
+	size_t span;
+	uint8_t *at; /* the slice that is lent now */
+	size_t n;
+	int writes; /* whether the call may write it */
+};
+
+static struct fence packet = {.size = 1600}, key1 = {.size = 32}, key2 = {.size = 32}, nonce = {.size = 12};
+static struct fence numbers = {.size = 96}, fields = {.size = 64}, payload = {.size = 70000}, bytes = {.size = 70000};
+static struct fence list = {.size = 16 * 700}, room = {.size = 70000}, pairs = {.size = 300};
+static struct fence tracker = {.size = 400}, record = {.size = 9000}, out = {.size = 65600};
+static struct fence *const fences[] = {&packet, &key1, &key2,  &nonce,   &numbers, &fields, &payload,
+                                       &bytes,  &list, &room, &pairs, &tracker, &record,  &out};
+
+static struct fence *lent[16];
+static size_t lents;
+
+static uint8_t *map(size_t span)
+{
+	uint8_t *start = mmap(NULL, span + 2 * PAGE, PROT_NONE, MAP_PRIVATE | MAP_ANONYMOUS, -1, 0);
+	if (start == MAP_FAILED || mprotect(start + PAGE, span, PROT_READ | PROT_WRITE) != 0)
+		stop("no memory");
+	return start + PAGE;
+}
+
+static void raise_fences(void)
+{
+	size_t i;
+	for (i = 0; i < sizeof fences / sizeof fences[0]; i++) {
+		struct fence *f = fences[i];
+		f->span = (f->size + PAGE - 1) / PAGE * PAGE;
+		f->start = map(f->span);
+		f->copy = malloc(f->span);
+		if (f->copy == NULL)
+			stop("no memory");
+	}
+}
+
+/* Lends n bytes, flush against the page before them or the one after; none may be lent as NULL. */
+static uint8_t *lend(struct fence *f, size_t n, int writes)
+{
+	f->n = n;
+	f->at = one_in(2) ? f->start : f->start + f->span - n;
+	f->writes = writes;
+	lent[lents++] = f;
+	return n == 0 && one_in(2) ? NULL : f->at;
+}
+
+/* The bytes beside a slice: those before it and those after it, as far as its pages go. */
+static size_t before_it(const struct fence *f)
+{
+	size_t n = (size_t)(f->at - f->start);
+	return n < BESIDE ? n : BESIDE;
+}
+
+static size_t after_it(const struct fence *f)
+{
+	size_t n = (size_t)(f->start + f->span - (f->at + f->n));
+	return n < BESIDE ? n : BESIDE;
+}
+
+static void copy_lent(void)
+{
+	size_t i;
+	for (i = 0; i < lents; i++) {
+		struct fence *f = lent[i];
+		memset(f->at - before_it(f), CANARY, before_it(f));
+		memset(f->at + f->n, CANARY, after_it(f));
+		memcpy(f->copy, f->at, f->n);
+	}
+}
+
+static int untouched(const uint8_t *at, size_t n)
+{
+	while (n--)
+		if (*at++ != CANARY)
+			return 0;
+	return 1;
+}
+
+/* Whether a slice from a place on is as it was. */
+static void stays(const struct fence *f, size_t from)
+{
+	if (f->n < from)
+		stop("more is said to be written than was lent");
+	if (memcmp(f->at + from, f->copy + from, f->n - from) != 0)
+		stop("bytes were changed that have to stay");
+}
+
+/* ---- the store's room: its pages are only read until a call writes one, which is then kept for comparing ---- */
+
+#define PAGES ((STRAWHUB_ROOM + PAGE - 1) / PAGE)
+
+static uint8_t *store_room;
+static uint8_t kept[PAGES][PAGE];
+static uint8_t *dirty[PAGES];
+static size_t dirties;
+
+static void touched(int signal_number, siginfo_t *info, void *context)
+{
+	uint8_t *at = info->si_addr;
+	(void)signal_number;
+	(void)context;
+	if (at < store_room || store_room + PAGES * PAGE <= at || dirties == PAGES)
+		stop("a byte outside what was lent was touched");
+	at -= (size_t)(at - store_room) % PAGE;
+	memcpy(kept[dirties], at, PAGE);
+	dirty[dirties++] = at;
+	if (mprotect(at, PAGE, PROT_READ | PROT_WRITE) != 0)
+		stop("a page cannot be opened");
+}
+
+static void guard_room(void)
+{
+	struct sigaction action;
+	memset(&action, 0, sizeof action);
+	action.sa_sigaction = touched;
+	action.sa_flags = SA_SIGINFO;
+	sigemptyset(&action.sa_mask);
+	store_room = map(PAGES * PAGE);
+	any_bytes(store_room, PAGES * PAGE);
+	if (mprotect(store_room, PAGES * PAGE, PROT_READ) != 0 || sigaction(SIGSEGV, &action, NULL) != 0 ||
+	    sigaction(SIGBUS, &action, NULL) != 0)
+		stop("the room cannot be guarded");
+}
+
+static void close_room(int refused)
+{
+	while (dirties) {
+		dirties--;
+		if (refused && memcmp(dirty[dirties], kept[dirties], PAGE) != 0)
+			stop("a refusal changed the room");
+		if (mprotect(dirty[dirties], PAGE, PROT_READ) != 0)
+			stop("a page cannot be closed");
+	}
+}
+
+/* ---- what holds after every call ---- */
+
+static int is_refusal(uint64_t number)
+{
+	return number != STRAWHUB_DONE && number != STRAWHUB_FINISHED;
+}
+
+static void answer(uint64_t number)
+{
+	size_t i;
+	if (number > STRAWHUB_FINISHED)
+		stop("no such number");
+	answered[number]++;
+	for (i = 0; i < lents; i++) {
+		struct fence *f = lent[i];
+		if (!f->writes || is_refusal(number))
+			stays(f, 0);
+		if (!untouched(f->at - before_it(f), before_it(f)) || !untouched(f->at + f->n, after_it(f)))
+			stop("bytes beside a slice were changed");
+	}
+	close_room(is_refusal(number));
+}
+
+static void must(int holds, const char *why)
+{
+	if (!holds)
+		stop(why);
+}
+
+static int may_answer(uint64_t number, const char *allowed)
+{
+	char word[8];
+	snprintf(word, sizeof word, " %u ", (unsigned)number);
+	return strstr(allowed, word) != NULL;
+}
+
+static uint64_t *lend_numbers(size_t count)
+{
+	uint8_t *at = lend(&numbers, count * 8, 1);
+	any_bytes(numbers.at, numbers.n);
+	return (uint64_t *)(void *)at;
+}
+
+static void lend_keys(void)
+{
+	any_bytes(lend(&key1, 32, 0), 32);
+	any_bytes(lend(&key2, 32, 0), 32);
+}
+
+/* ---- headers ---- */
+
+static void keystream(void)
+{
+	uint8_t *stream = lend(&out, 64, 1);
+	lend_keys();
+	any_bytes(lend(&nonce, 12, 0), 12);
+	copy_lent();
+	strawhub_keystream(key1.at, (uint32_t)any(), nonce.at, stream);
+	answer(0);
+}
+
+static uint8_t *lend_packet(void)
+{
+	uint8_t *at = lend(&packet, one_in(3) ? below(1601) : 30 + below(80), 1);
+	any_bytes(packet.at, packet.n);
+	return at;
+}
+
+/* A Data header, then other bits at the type and at the byte after it. */
+static void plausible_header(void)
+{
+	if (strawhub_header_write(packet.at, packet.n, key1.at, key2.at, 6, any(), one_in(2) ? 0 : (uint32_t)any(), 0, 0, 0,
+	                          0, 0, 0, 0) != 0)
+		return;
+	packet.at[12] ^= (uint8_t)(6 ^ below(13));
+	packet.at[13] ^= (uint8_t)below(7);
+}
+
+static void header_read(void)
+{
+	uint8_t *at = lend_packet();
+	uint64_t *o = lend_numbers(11);
+	uint32_t number;
+	lend_keys();
+	if (!one_in(4))
+		plausible_header();
+	copy_lent();
+	number = strawhub_header_read(at, packet.n, key1.at, key2.at, o);
+	must(may_answer(number, " 0 20 21 22 23 24 "), "another number");
+	answer(number);
+	if (number != 0)
+		return;
+	stays(&packet, packet.n < 64 ? packet.n : 64);
+	must(o[0] <= 11 && o[3] <= 15 && o[4] <= 15 && o[5] <= 1 && (o[10] == 0 || o[10] == 32), "a field out of range");
+}
+
+static void header_write(void)
+{
+	uint8_t *at = lend_packet(), kind = (uint8_t)below(13), version = (uint8_t)(1 + below(4));
+	uint8_t fragment = (uint8_t)below(17), count = (uint8_t)below(17), flag = (uint8_t)below(3);
+	uint64_t destination = any(), read[11];
+	uint32_t sequence = one_in(2) ? 0 : (uint32_t)any(), number;
+	lend_keys();
+	copy_lent();
+	number = strawhub_header_write(at, packet.n, key1.at, key2.at, kind, destination, sequence, version, 2, 3, 4, fragment,
+	                               count, flag);
+	must(may_answer(number, " 0 20 21 22 24 25 "), "another number");
+	answer(number);
+	if (number != 0)
+		return;
+	stays(&packet, kind < 2 ? 64 : kind == 2 || kind == 6 ? 16 : 32);
+	must(strawhub_header_read(at, packet.n, key1.at, key2.at, read) == 0, "what was written is not read");
+	must(read[0] == kind && read[7] == destination && read[6] == sequence, "what was written is read otherwise");
+	must(kind >= 2 || memcmp(packet.at + 32, packet.copy + 32, 32) == 0, "the key is read otherwise");
+}
+
+/* ---- payloads ---- */
+
+static uint8_t draft[70000];
+
+static void put(uint8_t *at, unsigned width, uint64_t x)
+{
+	while (width--) {
+		at[width] = (uint8_t)x;
+		x >>= 8;
+	}
+}
+
+/* Messages are told by their id: how many pieces, how long each is. Some are longer than a message may be. */
+static uint32_t any_id(void)
+{
+	return (uint32_t)below(22);
+}
+
+static uint8_t last_of(uint32_t id)
+{
+	return (uint8_t)(id % 5 == 0 ? 50 : 1 + id % 4);
+}
+
+static uint8_t any_piece(uint32_t id)
+{
+	return (uint8_t)(one_in(20) ? below(256) : below((size_t)last_of(id) + 1));
+}
+
+static size_t piece_length(uint32_t id, uint8_t number)
+{
+	if (one_in(100))
+		return below(1600);
+	return id % 5 == 0 ? 1500 : 1 + (id * 7 + number * 13) % 90;
+}
+
+/* The same bytes for the same piece, but for a few. */
+static void piece_bytes(uint8_t *at, size_t n, uint32_t id, uint8_t number)
+{
+	size_t i;
+	for (i = 0; i < n; i++)
+		at[i] = (uint8_t)(i * 3 + id * 31 + number);
+	if (n && one_in(40))
+		mutate(at, n);
+}
+
+/* A piece as a block. */
+static size_t draft_piece(uint8_t *at, uint32_t id)
+{
+	uint8_t number = any_piece(id) & 127;
+	size_t n = piece_length(id, number), head = number == 0 ? 9 : 5;
+	at[0] = number == 0 ? 4 : 5;
+	put(at + 1, 2, n + head);
+	at[3] = number == 0 ? 20 : (uint8_t)(number * 2 + (number == last_of(id)));
+	put(at + 4, 4, id);
+	if (number == 0)
+		put(at + 8, 4, id * 3);
+	piece_bytes(at + 3 + head, n, id, number);
+	return 3 + head + n;
+}
+
+/* A block of any type with the size that it should have, or nearly. */
+static size_t draft_block(uint8_t *at)
+{
+	static const uint8_t kinds[] = {0, 1, 2, 3, 4, 5, 6, 7, 11, 12, 13, 14, 15, 16, 17, 18, 19, 20, 21, 254};
+	static const uint8_t listed[] = {1, 2, 3, 10, 11, 18, 20, 26, 27};
+	uint8_t kind = one_in(20) ? (uint8_t)any() : kinds[below(sizeof kinds)];
+	size_t size = below(40);
+	switch (kind) {
+	case 0: case 16: case 20: size = 4; break;
+	case 1: case 17: size = 12; break;
+	case 6: size = 9; break;
+	case 12: size = 5 + 2 * below(10) + one_in(8); break;
+	case 13: size = one_in(2) ? 6 : 18; break;
+	case 15: size = 0; break;
+	case 21: size = 1; break;
+	default: break;
+	}
+	if (one_in(20))
+		size = below(60);
+	at[0] = kind;
+	put(at + 1, 2, size);
+	any_bytes(at + 3, size);
+	if ((kind == 3 || kind == 4) && size)
+		at[3] = listed[below(sizeof listed)];
+	return 3 + size;
+}
+
+/* Blocks, some pieces among them; or noise; cut or changed here and there. */
+static const uint8_t *lend_payload(void)
+{
+	size_t n = 0, blocks = below(one_in(50) ? 600 : 8);
+	const uint8_t *at;
+	if (one_in(20)) {
+		n = below(200);
+		any_bytes(draft, n);
+	}
+	while (blocks-- && n < 60000)
+		n += one_in(3) ? draft_piece(draft + n, any_id()) : draft_block(draft + n);
+	if (n && one_in(4))
+		n = below(n);
+	if (one_in(4))
+		mutate(draft, n);
+	at = lend(&payload, n, 0);
+	memcpy(payload.at, draft, n);
+	return at;
+}
+
+/* The place of some block, or any. */
+static size_t any_place(void)
+{
+	uint64_t o[12];
+	size_t at = 0, steps = below(6);
+	if (one_in(20))
+		return one_in(2) ? (size_t)any() : below(payload.n + 2);
+	while (steps--) {
+		struct strawhub_outcome r = strawhub_block_read(payload.at, payload.n, at, o);
+		if (r.number != 0 || r.value == payload.n)
+			break;
+		at = (size_t)r.value;
+	}
+	return at;
+}
+
+#define READING " 0 1 2 3 4 5 6 7 8 9 "
+
+static void block_read(void)
+{
+	const uint8_t *p = lend_payload();
+	uint64_t *o = lend_numbers(12);
+	size_t at = any_place();
+	struct strawhub_outcome r;
+	copy_lent();
+	r = strawhub_block_read(p, payload.n, at, o);
+	must(may_answer(r.number, READING), "another number");
+	answer(r.number);
+	if (r.number != 0) {
+		must(r.value == at, "a refusal at another place");
+		return;
+	}
+	must(at + 3 <= r.value && r.value <= payload.n, "a block that ends outside the payload");
+	must(o[2] <= payload.n && o[3] <= payload.n - o[2], "bytes outside the payload");
+}
+
+static void block_list(void)
+{
+	const uint8_t *p = lend_payload();
+	size_t room_for = one_in(3) ? below(700) : below(12), i, at = 0;
+	struct strawhub_entry *entries = (struct strawhub_entry *)(void *)lend(&list, room_for * 16, 1);
+	struct strawhub_outcome r;
+	uint64_t o[12];
+	any_bytes(list.at, list.n);
+	copy_lent();
+	r = strawhub_block_list(p, payload.n, entries, room_for);
+	must(may_answer(r.number, READING "10 "), "another number");
+	answer(r.number);
+	if (r.number != 0) {
+		must(r.value <= payload.n, "a place outside the payload");
+		return;
+	}
+	must(r.value <= room_for, "more entries than were lent");
+	stays(&list, (size_t)r.value * 16);
+	for (i = 0; i < r.value; i++) {
+		struct strawhub_outcome b = strawhub_block_read(payload.at, payload.n, at, o);
+		must(b.number == 0 && entries[i].place == at && entries[i].kind == o[0] && entries[i].size == o[1],
+		     "a listing that differs from the blocks");
+		at = (size_t)b.value;
+	}
+	must(at == payload.n, "a listing that ends early");
+}
+
+static size_t any_body(uint8_t kind)
+{
+	if (one_in(300))
+		return 65500 + below(100);
+	if (kind == 13 && !one_in(4))
+		return one_in(2) ? 4 : 16;
+	return below(60);
+}
+
+static void any_fields(uint64_t *f, uint8_t kind)
+{
+	static const uint8_t widths[] = {8, 8, 7, 16, 32, 32, 1};
+	size_t i;
+	for (i = 0; i < 8; i++)
+		f[i] = any() >> (64 - widths[below(one_in(3) ? sizeof widths : 3)]);
+	if ((kind == 3 || kind == 4) && !one_in(5))
+		f[0] = 18 + below(9);
+	if (kind == 5)
+		f[1] &= one_in(5) ? 3 : 1;
+	if (one_in(20))
+		f[below(8)] = any();
+}
+
+/* How many fields a type has. */
+static size_t fields_of(uint8_t kind)
+{
+	static const uint8_t counts[22] = {1, 8, 2, 3, 3, 3, 2, 0, 0, 0, 0, 0, 2, 1, 0, 0, 1, 2, 0, 0, 1, 1};
+	return kind < sizeof counts ? counts[kind] : 0;
+}
+
+static void block_write(void)
+{
+	uint8_t kind = (uint8_t)(one_in(3) ? any() : below(22)), *at, *b;
+	uint64_t *f = (uint64_t *)(void *)lend(&fields, 64, 0), o[12];
+	struct strawhub_outcome r, read;
+	any_fields(f, kind);
+	b = lend(&bytes, any_body(kind), 0);
+	any_bytes(bytes.at, bytes.n < 100 ? bytes.n : 100);
+	at = lend(&room, one_in(200) ? below(70001) : below(90), 1);
+	copy_lent();
+	r = strawhub_block_write(at, room.n, kind, f, b, bytes.n);
+	must(may_answer(r.number, " 0 30 31 32 "), "another number");
+	answer(r.number);
+	if (r.number != 0)
+		return;
+	stays(&room, (size_t)r.value);
+	read = strawhub_block_read(room.at, (size_t)r.value, 0, o);
+	must(read.number == 0 && read.value == r.value && o[0] == kind, "what was written is not read");
+	must(memcmp(o + 4, f, fields_of(kind) * 8) == 0, "other fields are read");
+	must(o[3] == 0 || (o[3] == bytes.n && memcmp(room.at + o[2], bytes.at, bytes.n) == 0), "other bytes are read");
+}
+
+/* ---- trackers ---- */
+
+static uint8_t tracker_now[STRAWHUB_TRACKER];
+static uint32_t near_number;
+
+/* The tracker as the last call left it, at times forged, at times short or longer than it has to be. */
+static uint8_t *lend_tracker(int writes)
+{
+	size_t n = one_in(60) ? below(401) : STRAWHUB_TRACKER;
+	uint8_t *at;
+	if (one_in(2000))
+		any_bytes(tracker_now, sizeof tracker_now);
+	if (one_in(2000))
+		mutate(tracker_now, sizeof tracker_now);
+	at = lend(&tracker, n, writes);
+	any_bytes(tracker.at, n);
+	memcpy(tracker.at, tracker_now, n < sizeof tracker_now ? n : sizeof tracker_now);
+	return at;
+}
+
+static void keep_tracker(void)
+{
+	if (tracker.n < sizeof tracker_now)
+		return;
+	memcpy(tracker_now, tracker.at, sizeof tracker_now);
+	stays(&tracker, sizeof tracker_now);
+}
+
+static uint32_t any_number(void)
+{
+	if (one_in(20))
+		return (uint32_t)any();
+	return near_number + (uint32_t)(one_in(10) ? below(600) : below(8)) - (uint32_t)(one_in(3) ? below(300) : 0);
+}
+
+static void tracker_new(void)
+{
+	uint8_t *at = lend_tracker(1);
+	uint32_t number;
+	copy_lent();
+	number = strawhub_tracker_new(at, tracker.n);
+	must(may_answer(number, " 0 59 "), "another number");
+	answer(number);
+	keep_tracker();
+	near_number = 0;
+}
+
+static void tracker_register(void)
+{
+	uint8_t *at = lend_tracker(1);
+	uint32_t n = any_number(), number;
+	copy_lent();
+	number = strawhub_tracker_register(at, tracker.n, n);
+	must(may_answer(number, " 0 40 42 43 59 "), "another number");
+	answer(number);
+	keep_tracker();
+	if (number == 0) {
+		near_number = n > near_number ? n : near_number;
+		must(strawhub_tracker_duplicate(tracker.at, tracker.n, n) == 1, "a registered number is not there");
+	}
+}
+
+static void tracker_duplicate(void)
+{
+	uint8_t *at = lend_tracker(0);
+	uint32_t number;
+	copy_lent();
+	number = strawhub_tracker_duplicate(at, tracker.n, any_number());
+	must(may_answer(number, " 0 1 59 "), "another number");
+	answer(number == 1 ? 0 : number);
+}
+
+static void tracker_report(void)
+{
+	uint8_t *at = lend_tracker(0), *p = lend(&pairs, 254, 1);
+	uint64_t *o = lend_numbers(3);
+	uint32_t number;
+	any_bytes(p, 254);
+	copy_lent();
+	number = strawhub_tracker_report(at, tracker.n, o, p);
+	must(may_answer(number, " 0 41 59 "), "another number");
+	answer(number);
+	if (number != 0)
+		return;
+	must(o[0] <= 0xffffffffu && o[1] <= 255 && o[2] <= 254 && o[2] % 2 == 0, "a report out of range");
+	near_number = (uint32_t)o[0];
+}
+
+static void tracker_ack_block(void)
+{
+	uint8_t *at = lend_tracker(0), *r = lend(&room, one_in(3) ? below(20) : below(300), 1);
+	struct strawhub_outcome o;
+	any_bytes(room.at, room.n);
+	copy_lent();
+	o = strawhub_tracker_ack_block(at, tracker.n, r, room.n);
+	must(may_answer(o.number, " 0 30 41 59 "), "another number");
+	answer(o.number);
+	if (o.number != 0)
+		return;
+	stays(&room, (size_t)o.value);
+	must(room.at[0] == 12, "no Ack block");
+}
+
+static void ack_expand(void)
+{
+	size_t room_for = one_in(2) ? below(2800) : below(300), i;
+	uint32_t through = one_in(2) ? (uint32_t)any() : (uint32_t)below(3000);
+	uint32_t *numbers_named = (uint32_t *)(void *)lend(&list, room_for * 4, 1);
+	const uint8_t *p = lend(&pairs, one_in(4) ? below(301) : below(10), 0);
+	struct strawhub_expanded r;
+	any_bytes(pairs.at, pairs.n);
+	any_bytes(list.at, list.n);
+	copy_lent();
+	r = strawhub_ack_expand(through, (uint8_t)any(), p, pairs.n, numbers_named, room_for);
+	must(may_answer(r.number, " 0 44 46 "), "another number");
+	answer(r.number);
+	if (r.number != 0)
+		return;
+	must(r.count >= 1 && r.count <= room_for && numbers_named[0] == through, "a count out of range");
+	stays(&list, r.count * 4);
+	for (i = 1; i < r.count; i++)
+		must(numbers_named[i] < numbers_named[i - 1], "numbers that do not fall");
+}
+
+/* ---- stores ---- */
+
+static uint8_t record_now[STRAWHUB_RECORD];
+static uint64_t second_now = 1000;
+static int room_first; /* the room stands flush against the page before it */
+static uint8_t *room_at;
+static size_t room_length;
+
+static void forge_record(void)
+{
+	if (one_in(15000))
+		any_bytes(record_now, sizeof record_now);
+	if (one_in(4000))
+		mutate(record_now, sizeof record_now);
+	if (one_in(4000))
+		mutate(record_now, 16 * 24); /* the heads */
+	if (one_in(10000)) {
+		memset(record_now, 0, sizeof record_now);
+		room_first = !room_first;
+	}
+}
+
+/* The store as the last call left it, at times forged, at times short or longer than it has to be. */
+static uint8_t *lend_record(void)
+{
+	size_t n = one_in(80) ? below(9001) : STRAWHUB_RECORD;
+	uint8_t *at;
+	forge_record();
+	at = lend(&record, n, 1);
+	memset(record.at, 0x33, n);
+	memcpy(record.at, record_now, n < sizeof record_now ? n : sizeof record_now);
+	return at;
+}
+
+static void keep_record(void)
+{
+	if (record.n < sizeof record_now)
+		return;
+	memcpy(record_now, record.at, sizeof record_now);
+	stays(&record, sizeof record_now);
+}
+
+/* Flush against the page before it or the one after; rarely too short, or longer than it has to be. */
+static void lend_room(void)
+{
+	room_length = one_in(80) ? below(STRAWHUB_ROOM) : one_in(5000) ? PAGES * PAGE : STRAWHUB_ROOM;
+	room_at = room_first ? store_room : store_room + PAGES * PAGE - room_length;
+}
+
+static uint8_t *lend_out(void)
+{
+	return lend(&out, one_in(20) ? below(65601) : one_in(20) ? below(200) : STRAWHUB_MESSAGE, 1);
+}
+
+#define KEEPING " 0 50 51 52 53 54 55 56 59 60 "
+
+static void keep_reply(struct strawhub_reply r)
+{
+	must(may_answer(r.number, KEEPING), "another number");
+	answer(r.number);
+	keep_record();
+	stays(&out, r.number == STRAWHUB_FINISHED ? r.length : 0);
+}
+
+static const uint8_t *lend_piece(uint32_t id, uint8_t number)
+{
+	const uint8_t *at = lend(&bytes, piece_length(id, number), 0);
+	piece_bytes(bytes.at, bytes.n, id, number);
+	return at;
+}
+
+static void store_new(void)
+{
+	uint8_t *at = lend_record();
+	uint32_t number;
+	copy_lent();
+	number = strawhub_store_new(at, record.n);
+	must(may_answer(number, " 0 59 "), "another number");
+	answer(number);
+	keep_record();
+}
+
+static void store_first(void)
+{
+	uint8_t *at = lend_record(), *o = lend_out();
+	uint32_t id = any_id();
+	const uint8_t *b = lend_piece(id, 0);
+	lend_room();
+	copy_lent();
+	keep_reply(strawhub_store_first(at, record.n, room_at, room_length, o, out.n, id, 20, id * 3, second_now, b, bytes.n));
+}
+
+static void store_follow_on(void)
+{
+	uint8_t *at = lend_record(), *o = lend_out();
+	uint32_t id = any_id();
+	uint8_t number = any_piece(id), last = one_in(400) ? (uint8_t)any() : number == last_of(id);
+	const uint8_t *b = lend_piece(id, number);
+	lend_room();
+	copy_lent();
+	keep_reply(strawhub_store_follow_on(at, record.n, room_at, room_length, o, out.n, id, number, last, second_now, b,
+	                                    bytes.n));
+}
+
+static void store_sweep(void)
+{
+	uint8_t *at = lend_record();
+	uint64_t second = one_in(500) ? any() : second_now;
+	copy_lent();
+	answer(strawhub_store_sweep(at, record.n, second));
+	if (record.n < STRAWHUB_RECORD)
+		stays(&record, 0);
+	keep_record();
+}
+
+static void block_deliver(void)
+{
+	const uint8_t *p = lend_payload();
+	uint8_t *at = lend_record(), *o = lend_out();
+	uint64_t *told = lend_numbers(6);
+	size_t place = any_place();
+	struct strawhub_outcome r;
+	lend_room();
+	copy_lent();
+	r = strawhub_block_deliver(p, payload.n, place, at, record.n, room_at, room_length, o, out.n, second_now, told);
+	must(may_answer(r.number, READING KEEPING), "another number");
+	answer(r.number);
+	keep_record();
+	stays(&out, r.number == STRAWHUB_FINISHED ? (size_t)told[5] : 0);
+	if (is_refusal(r.number))
+		return;
+	must(told[0] <= 2 && (told[0] == 2) == (r.number == STRAWHUB_FINISHED), "a message that stands nowhere");
+	must(told[0] != 1 || (told[4] <= payload.n && told[5] <= payload.n - told[4]), "a message outside the payload");
+	must(told[0] != 2 || told[4] == 0, "a rebuilt message that does not stand first");
+}
+
+/* ---- the run ---- */
+
+static const struct {
+	const char *name;
+	void (*run)(void);
+	unsigned weight;
+} all[] = {
+	{"strawhub_keystream", keystream, 2},
+	{"strawhub_header_read", header_read, 10},
+	{"strawhub_header_write", header_write, 10},
+	{"strawhub_block_read", block_read, 12},
+	{"strawhub_block_write", block_write, 12},
+	{"strawhub_block_list", block_list, 8},
+	{"strawhub_tracker_new", tracker_new, 1},
+	{"strawhub_tracker_register", tracker_register, 20},
+	{"strawhub_tracker_duplicate", tracker_duplicate, 5},
+	{"strawhub_tracker_report", tracker_report, 5},
+	{"strawhub_tracker_ack_block", tracker_ack_block, 5},
+	{"strawhub_ack_expand", ack_expand, 8},
+	{"strawhub_store_new", store_new, 0}, /* as rare as any_call has it */
+	{"strawhub_store_first", store_first, 8},
+	{"strawhub_store_follow_on", store_follow_on, 20},
+	{"strawhub_store_sweep", store_sweep, 2},
+	{"strawhub_block_deliver", block_deliver, 12},
+};
+
+#define ALL (sizeof all / sizeof all[0])
+#define STORE_NEW 12
+
+static size_t any_call(void)
+{
+	static unsigned sum;
+	size_t i, at;
+	if (sum == 0)
+		for (i = 0; i < ALL; i++)
+			sum += all[i].weight;
+	if (one_in(10000))
+		return STORE_NEW;
+	at = below(sum);
+	for (i = 0; at >= all[i].weight; i++)
+		at -= all[i].weight;
+	return i;
+}
+
+/* Every number of the header has to come, or the bytes were not any. */
+static int every_number_came(void)
+{
+	static const uint8_t given[] = {0,  1,  2,  3,  4,  5,  6,  7,  8,  9,  10, 20, 21, 22, 23, 24, 25, 30,
+	                                31, 32, 40, 41, 42, 43, 44, 46, 50, 51, 52, 53, 54, 55, 56, 59, 60};
+	size_t i;
+	int whole = 1;
+	for (i = 0; i < sizeof given; i++) {
+		printf("%s%d: %llu", i ? ", " : "answers: ", given[i], answered[given[i]]);
+		whole = whole && answered[given[i]] != 0;
+	}
+	printf("\n");
+	return whole;
+}
+
+static unsigned long long number_of(const char *word)
+{
+	char *end;
+	unsigned long long n = strtoull(word, &end, 10);
+	if (*word == 0 || *end != 0) {
+		fprintf(stderr, "fuzz: %s is no number\n", word);
+		exit(2);
+	}
+	return n;
+}
+
+int main(int argc, char **argv)
+{
+	if (argc != 3) {
+		fprintf(stderr, "fuzz: wanted are a seed and a count of calls\n");
+		return 2;
+	}
+	seed = number_of(argv[1]);
+	total = number_of(argv[2]);
+	state = seed * 0x9e3779b97f4a7c15ULL + 1;
+	if (state == 0) /* it would stay 0 */
+		state = 1;
+	raise_fences();
+	guard_room();
+	for (calls = 1; calls <= total; calls++) {
+		size_t i = any_call();
+		call = all[i].name;
+		lents = 0;
+		all[i].run();
+		second_now += one_in(1000);
+		if (calls % 1000000 == 0) {
+			printf("fuzz: %llu of %llu calls\n", calls, total);
+			fflush(stdout);
+		}
+	}
+	if (!every_number_came() && total >= 200000) {
+		printf("fuzz: failed, a number never came\n");
+		return 1;
+	}
+	printf("fuzz: %llu calls of seed %llu passed, 0 failed\n", total, seed);
+	return 0;
+}
