@@ -1,7 +1,8 @@
 # make list: the blocks of a payload. make test: the format, a short round of each test below, then the whole gate.
 # make oracle: the original Rust beside the library, millions of calls. make bench: both sides timed in one run.
 # make calls: the C calls, and a short round of any bytes. make fuzz: ten million. make rust: the crate's tests.
-.PHONY: list test oracle bench calls fuzz rust
+# make second: the library beside an independent program of the rules; WORDS=-l for the long round.
+.PHONY: list test oracle bench calls fuzz rust second
 
 # a sample unless FILE names a payload
 FILE = crates/lister/stdin
@@ -16,6 +17,8 @@ list:
 test:
 	rt fmt --check
 	tests/c/run
+	rust/run
+	tests/second/run
 	oracle/run '' 1 500000
 	rt ci
 
@@ -36,3 +39,6 @@ fuzz:
 
 rust:
 	rust/run
+
+second:
+	tests/second/run $(WORDS)

@@ -1,6 +1,8 @@
 """Acknowledgements as the rules say them, written from the document alone: a set of numbers, and no ring, marks or runs of ours."""
 from itertools import groupby
 
+from blocks_model import write
+
 
 class Tracker:
     def __init__(self):
@@ -49,3 +51,9 @@ def expand(through, count, pairs, room):
         names += range(at - 1, at - ack - 1, -1)
         at -= ack
     return (0, names) if len(names) <= room else (46, [])
+
+
+def ack_block(tracker, room):
+    """(0, the report as an Ack block) or (number, None)"""
+    number, through, count, pairs = tracker.report()
+    return (number, None) if number else write(12, [through, count], bytes(pairs), room)
