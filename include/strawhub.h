@@ -6,7 +6,8 @@
  * them; all zero is empty.
  *
  * 0 is success. Any other number is a refusal (60 is not: it says that a message is finished), and a
- * refusal changes no byte that was lent. STRAWHUB_* below name them.
+ * refusal changes no byte that was lent. STRAWHUB_* below name them. Parts of an answer that nothing is
+ * said of are 0.
  */
 #ifndef STRAWHUB_H
 #define STRAWHUB_H
@@ -170,9 +171,10 @@ struct strawhub_reply strawhub_store_follow_on(uint8_t *record, size_t record_le
 uint8_t strawhub_store_sweep(uint8_t *record, size_t record_len, uint64_t second);
 
 /* What the block at a place delivers. told: where the message stands (0 none, 1 in the payload, 2 in
- * the assembly buffer), its I2NP type, id, expiration, place and length there. 0: a whole message, or
- * none (a piece was kept, or a block of another type); 60: a rebuilt one. Or 1 to 9 and the block's
- * place, or the store's refusal and 0, and then told too is as it was. */
+ * the assembly buffer), its I2NP type, id, expiration, place and length there; all 0 where there is
+ * none. 0: a whole message, or none (a piece was kept, or a block of another type); 60: a rebuilt one.
+ * Or 1 to 9 and the block's place, or the store's refusal (59 for pieces alone), and then told too is
+ * as it was. */
 struct strawhub_outcome strawhub_block_deliver(const uint8_t *payload, size_t payload_len, size_t at, uint8_t *record,
                                                size_t record_len, uint8_t *room, size_t room_len, uint8_t *out,
                                                size_t out_len, uint64_t second, uint64_t told[6]);
