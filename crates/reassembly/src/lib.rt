@@ -1,8 +1,8 @@
 // Pieces of messages, put together: the store of document 01.
-pub mod record; // record.rt: the record's heads and entries, in lent bytes
-pub mod slots; // slots.rt: the slot of a message
-pub mod pieces; // pieces.rt: held pieces, and the message that they make
-pub mod judge; // judge.rt: what a piece is to a slot
+mod record; // record.rt: the record's heads and entries, in lent bytes
+mod slots; // slots.rt: the slot of a message
+mod pieces; // pieces.rt: held pieces, and the message that they make
+mod judge; // judge.rt: what a piece is to a slot
 
 use judge::Label;
 use record::Entry;
