@@ -1,11 +1,9 @@
 -- The laws that the crates above cite.
 pub mod Ends
-pub mod Walk
 pub mod Puts
 pub mod Types
 pub mod Tables
 pub mod Soundness
 pub mod WriteThenRead
 pub mod ReadThenWrite
-pub mod ListingIsReadings
-pub mod Cases
+pub mod ReadExtents

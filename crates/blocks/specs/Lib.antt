@@ -2,7 +2,5 @@
 pub mod Extent
 pub mod Sound
 pub mod Reading
-pub mod Listing
 pub mod Writing
 pub mod Claims
-pub mod Cases

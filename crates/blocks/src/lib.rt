@@ -1,9 +1,8 @@
-// SSU2 blocks: their bodies as values, and reading, listing and writing them.
+// SSU2 blocks: their bodies as values, and reading and writing them.
 pub mod extents;
 mod fields;
-pub mod listing;
 pub mod reading;
-mod sound;
+pub mod sound;
 pub mod writing;
 
 // Bytes of the payload: where they start, and how many they are.
@@ -116,28 +115,6 @@ pub enum Extent {
 pub enum Taken {
     Bytes { count: usize },
     Refused { number: u32 },
-}
-
-// One block of a listing: its place, its type and its size field as it stands.
-#[repr(C)]
-pub struct Entry {
-    pub place: usize,
-    pub kind: u8,
-    pub size: u16,
-}
-
-// A record, and the place after its block.
-pub struct Step {
-    pub entry: Entry,
-    pub next: usize,
-}
-
-// What came of a listing: 0 and the count of blocks, or the number of the refusal and its place.
-#[repr(C)]
-pub struct Answer {
-    pub number: u32,
-    pub place: usize,
-    pub count: usize,
 }
 
 // What came of writing a block: its length, or the number of the refusal.

@@ -132,7 +132,7 @@ fn refused(number: u32, place: usize, tally: &mut [u64]) {
 fn payload(bytes: &[u8], capacity: usize, tally: &mut [u64]) {
     let mut room = [0u8; 2048];
     add(tally, OTHERS, PAYLOADS, 1);
-    let answer = blocks::listing::count_blocks(bytes, capacity);
+    let answer = listing::count_blocks(bytes, capacity);
     if answer.number == 0 {
         blocks_of(bytes, answer.count, &mut room, tally);
     } else {

@@ -4,7 +4,7 @@ use Rattle.wire.specs.Parts.{part, same}
 use Rattle.wire.specs.Numbers.{little, big, bigAt}
 use Rattle.blocks.specs.Extent.{listed, firstFragment, pairsIn, address, takenAt, extentAt}
 use Rattle.blocks.specs.Reading.{blockAt, readAt}
-use Rattle.blocks.specs.Listing.{blocksFrom, blocksOf}
+use Rattle.listing.specs.Listing.{blocksFrom, blocksOf}
 use Rattle.acks.specs.Window.{falling, inWindow}
 use Rattle.acks.specs.History.{answerTo}
 use Rattle.acks.specs.Tracking.{fresh, mark, held, clearUp, marksAfter, acceptOf, answerOf, registerOf, registerAll}

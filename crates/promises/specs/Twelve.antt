@@ -9,7 +9,7 @@ use Rattle.blocks.specs.declared.Block.the-variants as Body
 use Rattle.blocks.specs.declared.Read.{Read}
 use Rattle.blocks.specs.declared.Read.the-variants as Got
 use Rattle.blocks.specs.Reading.{bytesAt, readAt, partOf}
-use Rattle.blocks.specs.Listing.{Listing, no, blocksOf}
+use Rattle.listing.specs.Listing.{Listing, no, blocksOf}
 use Rattle.acks.specs.Tracking.{fresh, registerOf}
 use Rattle.acks.specs.Reporting.{shown}
 use Rattle.acks.specs.Expanding.{numbers}

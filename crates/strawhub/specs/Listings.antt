@@ -1,7 +1,7 @@
 -- A listing's answer by numbers.
 use mathlib.Core.Bool.{cond}
 use lib.Dec.{eqb}
-use Rattle.blocks.specs.declared.Answer.{Answer}
+use Rattle.listing.specs.declared.Answer.{Answer}
 use Rattle.strawhub.specs.declared.outcomes.Outcome.{Outcome}
 
 -- 0 and the count, or the refusal and its place

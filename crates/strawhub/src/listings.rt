@@ -1,10 +1,10 @@
 // A payload's blocks, listed into records that the caller lends.
 use super::outcomes::Outcome;
-use blocks::Answer;
-use blocks::Entry;
+use listing::Answer;
+use listing::Entry;
 ghost use mathlib.Core.Path.{_≡_};
 ghost use lib.ListN.{length};
-ghost use Rattle.blocks.specs.Listing.{listing, answerOf, filled};
+ghost use Rattle.listing.specs.Listing.{listing, answerOf, filled};
 ghost use Rattle.strawhub.specs.Listings.{outcome};
 
 fn outcome_of(answer: Answer) -> Outcome
@@ -27,6 +27,6 @@ fn outcome_of(answer: Answer) -> Outcome
 pub extern "C" fn strawhub_block_list(payload: &[u8], list: &mut [Entry]) -> Outcome
     ensures { λ r. ⌜ (r ≡ outcome (answerOf (listing (length (now (list .entry))) (now (payload .entry))))) × (now (list .exit) ≡ filled (listing (length (now (list .entry))) (now (payload .entry))) (now (list .entry))) ⌝ }
 {
-    let answer = blocks::listing::list_blocks(payload, list);
+    let answer = listing::list_blocks(payload, list);
     outcome_of(answer)
 }

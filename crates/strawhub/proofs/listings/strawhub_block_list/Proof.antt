@@ -36,16 +36,16 @@ use denote.Triple.Clauses.{ensured, lasts}
 use denote.Triple.Table.{entered, cited}
 use denote.Triple.Walked.{says, Stays, stay-dropped, gave-slice, walkOf, goes-dropped, goes-gave-slice, Walks, ends-at, walked, walk-meets}
 use denote.Exit.{yes}
-use Rattle.blocks.specs.declared.Entry.{Entry}
-use Rattle.blocks.specs.declared.Answer.{Answer}
-use Rattle.blocks.specs.Listing.{listing, answerOf, filled}
-use Rattle.blocks.proofs.Entry as T
-use Rattle.blocks.proofs.Answer as L
-use Rattle.blocks.proofs.Answer.Laws as L′
-use Rattle.blocks.proofs.listing.list_blocks as list-blocks
-use Rattle.blocks.proofs.listing.list_blocks.Symbol as list-def
-use Rattle.blocks.proofs.listing.list_blocks.Symbol.{name as #blocks·listing·list-blocks}
-use Rattle.blocks.proofs.listing.list_blocks.Met as list-thm
+use Rattle.listing.specs.declared.Entry.{Entry}
+use Rattle.listing.specs.declared.Answer.{Answer}
+use Rattle.listing.specs.Listing.{listing, answerOf, filled}
+use Rattle.listing.proofs.Entry as T
+use Rattle.listing.proofs.Answer as L
+use Rattle.listing.proofs.Answer.Laws as L′
+use Rattle.listing.proofs.list_blocks as list-blocks
+use Rattle.listing.proofs.list_blocks.Symbol as list-def
+use Rattle.listing.proofs.list_blocks.Symbol.{name as #listing·list-blocks}
+use Rattle.listing.proofs.list_blocks.Met as list-thm
 use Rattle.strawhub.specs.declared.outcomes.Outcome.{Outcome}
 use Rattle.strawhub.specs.Listings.{outcome}
 use Rattle.strawhub.proofs.outcomes.Outcome as S
@@ -123,7 +123,7 @@ module _ {M : Type 1} (𝓤 : URA M) (H : Heap 𝓤) (A : Atoms 𝓤) (W : Given
   goes-out : (r : Answer) (u : Val) → ent 𝓤 (sem 𝓤 H A (L.the-row .own r (u ∷ []))) (Out 𝓤 H A mem run .pre (to-out r u))
   goes-out r u = qed W (‵ (L.the-row .own r (u ∷ [])) ∷ []) ∵ nothing ! $ move ! (1 ∷ 0 ∷ []) $ fjoin ! $ nothing ! $ join ! $ frame ! $ done !
 
-  module _ (C : Calls 𝓤 H) (Λ : Loops 𝓤 H) (fm : FmC 𝓤 H (W .laws) C) (known-list : Triple 𝓤 (C #blocks·listing·list-blocks) (Lists 𝓤 H A mem run)) (known-out : Triple 𝓤 (C #strawhub·listings·outcome-of) (Out 𝓤 H A mem run)) where
+  module _ (C : Calls 𝓤 H) (Λ : Loops 𝓤 H) (fm : FmC 𝓤 H (W .laws) C) (known-list : Triple 𝓤 (C #listing·list-blocks) (Lists 𝓤 H A mem run)) (known-out : Triple 𝓤 (C #strawhub·listings·outcome-of) (Out 𝓤 H A mem run)) where
     walk : Room u8 (length (p .now)) → Room R (length ys) → ent 𝓤 (onEntry 𝓤 H A block-list.signature (κ, (κ′, tt)) (q, (q′, tt)) a vals) (WpFn 𝓤 H C Λ code.function (v₁ ∷ v₂ ∷ []) Post)
     walk room₁ room =
         qed W ((‵ (flft κ q) ⊛ ‵ (flft κ′ q′) ⊛ ‵ ftrue) ∷ ‵ (owns (ShrSlice (named 0) κ u8 ∷ MutSlice (named 1) κ′ R ∷ []) a vals) ∷ []) ∵ enter ! C Λ code.function (v₁ ∷ v₂ ∷ []) _ $
@@ -153,7 +153,7 @@ module _ {M : Type 1} (𝓤 : URA M) (H : Heap 𝓤) (A : Atoms 𝓤) (W : Given
         move ! (16 ∷ 17 ∷ []) $ free1 ! $ move ! (14 ∷ 15 ∷ []) $ free1 ! $ move ! (12 ∷ 13 ∷ []) $ free1 ! $ move ! (10 ∷ 11 ∷ []) $ free1 ! $ move ! (8 ∷ 9 ∷ []) $ free1 ! $ move ! (6 ∷ 7 ∷ []) $ free1 ! $ free0 ! $
         keep ! (2 ∷ 3 ∷ 0 ∷ []) $ by ! (exits d w (zs .1 .0) (e₂ ∙ ap outcome (e .0), e .1) l)))))))))))))))))
 
-module _ {M : Type 1} (𝓤 : URA M) (H : Heap 𝓤) (A : Atoms 𝓤) (W : Given 𝓤 H A) (mem : Memory → SProp 𝓤) (run : Routine → Fun 𝓤) (𝓣 : Tables 𝓤 H) (known-list : Triple 𝓤 (𝓣 .C #blocks·listing·list-blocks) (Lists 𝓤 H A mem run)) (known-out : Triple 𝓤 (𝓣 .C #strawhub·listings·outcome-of) (Out 𝓤 H A mem run)) where
+module _ {M : Type 1} (𝓤 : URA M) (H : Heap 𝓤) (A : Atoms 𝓤) (W : Given 𝓤 H A) (mem : Memory → SProp 𝓤) (run : Routine → Fun 𝓤) (𝓣 : Tables 𝓤 H) (known-list : Triple 𝓤 (𝓣 .C #listing·list-blocks) (Lists 𝓤 H A mem run)) (known-out : Triple 𝓤 (𝓣 .C #strawhub·listings·outcome-of) (Out 𝓤 H A mem run)) where
   block-list-walks : Walks 𝓤 H A block-list.ended stayed (WpFn 𝓤 H (𝓣 .C) (𝓣 .Λ) code.function) (block-list.clauses 𝓤 H A mem run)
   block-list-walks = walked 𝓤 H A block-list.ended stayed (block-list.clauses 𝓤 H A mem run) (WpFn 𝓤 H (𝓣 .C) (𝓣 .Λ) code.function)
       (λ κs. (slice-vals, (slice-vals, tt))) (λ κs. (shr-slice-tells (named 0) (κs .0) u8, (mut-slice-tells (named 1) (κs .1 .0) R, tt)))
@@ -171,5 +171,5 @@ strawhub-block-list-spec 𝓤 H 𝓜 𝓖 𝓡 =
     entered 𝓤 H (tripleOf 𝓤 H (𝓖 .A) block-list.signature (block-list.spec 𝓤 H (𝓖 .A) (𝓜 .mem) (𝓡 .run)))
     (tables 𝓤 H 𝓜 𝓡 code.env .C) (tables 𝓤 H 𝓜 𝓡 code.env .Λ) #strawhub·listings·strawhub-block-list code.function (code.unfolded 𝓤 H 𝓜 𝓡)
     (block-list-meets 𝓤 H (𝓖 .A) (givenOf 𝓤 H 𝓜 𝓖) (𝓜 .mem) (𝓡 .run) (tablesOf 𝓤 H 𝓜 (tables 𝓤 H 𝓜 𝓡 code.env))
-    (cited 𝓤 H (Lists 𝓤 H (𝓖 .A) (𝓜 .mem) (𝓡 .run)) 𝓜 𝓡 code.env #blocks·listing·list-blocks list-def.routine code.calls-blocks·listing·list-blocks (list-thm.met 𝓤 H 𝓜 𝓖 𝓡))
+    (cited 𝓤 H (Lists 𝓤 H (𝓖 .A) (𝓜 .mem) (𝓡 .run)) 𝓜 𝓡 code.env #listing·list-blocks list-def.routine code.calls-listing·list-blocks (list-thm.met 𝓤 H 𝓜 𝓖 𝓡))
     (cited 𝓤 H (Out 𝓤 H (𝓖 .A) (𝓜 .mem) (𝓡 .run)) 𝓜 𝓡 code.env #strawhub·listings·outcome-of out-def.routine code.calls-strawhub·listings·outcome-of (out-thm.met 𝓤 H 𝓜 𝓖 𝓡)))

@@ -3,12 +3,12 @@ use Prim.Native.Nat.{ℕ, _+_}
 use native.Mathlib.Omega.{arith}
 use lib.ListN.{length}
 use borrow.Author.Tests.{le-leb, lt-leb}
 use Rattle.blocks.specs.Extent.{kindAt, sizeAt}
 use Rattle.blocks.specs.Sound.{bodyLength}
-use Rattle.blocks.proofs.Walk.{no-step, step-over}
+use Rattle.listing.proofs.Walk.{no-step, step-over}
 use borrow.Author.Needs.{needs}
-use Rattle.blocks.proofs.listing.step_at.Statement.{statement}
-use Rattle.blocks.proofs.listing.step_at.Tie as tie
+use Rattle.listing.proofs.step_at.Statement.{statement}
+use Rattle.listing.proofs.step_at.Tie as tie
 
 stays-at-requires : tie.Need-stays-at-requires
 stays-at-requires c κs = search needs

@@ -4,13 +4,13 @@ use mathlib.Core.List.{List, [], _∷_, _++_}
 use Prim.Native.Nat.{ℕ, zero, suc, _+_}
 use lib.Dec.{ltb, leb}
 use lib.ListN.{length, getD, drop}
 use Rattle.blocks.specs.declared.Extent.{Extent}
 use Rattle.blocks.specs.declared.Extent.the-variants as End
-use Rattle.blocks.specs.declared.Entry.{Entry}
-use Rattle.blocks.specs.declared.Step.{Step}
-use Rattle.blocks.specs.declared.Answer.{Answer}
+use Rattle.listing.specs.declared.Entry.{Entry}
+use Rattle.listing.specs.declared.Step.{Step}
+use Rattle.listing.specs.declared.Answer.{Answer}
 use Rattle.blocks.specs.Extent.{kindAt, sizeAt, extentAt}
 use Rattle.blocks.specs.Sound.{bodyLength}
 
 -- what a listing gives: its records, or a refusal's number and place
 pub data Listing : Type 0 where

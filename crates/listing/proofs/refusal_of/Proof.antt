@@ -1,8 +1,8 @@
 use mathlib.Core.Path.{sym, ap}
-use Rattle.blocks.specs.Listing.{refusalOf}
+use Rattle.listing.specs.Listing.{refusalOf}
 use borrow.Author.Needs.{needs}
-use Rattle.blocks.proofs.listing.refusal_of.Statement.{statement}
-use Rattle.blocks.proofs.listing.refusal_of.Tie as tie
+use Rattle.listing.proofs.refusal_of.Statement.{statement}
+use Rattle.listing.proofs.refusal_of.Tie as tie
 
 enum-known-extent : tie.Need-enum-known-extent
 enum-known-extent c = search needs

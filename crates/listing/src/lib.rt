@@ -1,16 +1,35 @@
-// Listing a payload: a record for each block, in a list that the caller lends.
-use super::Answer;
-use super::Entry;
-use super::Extent;
-use super::Step;
-use super::extents::extent_of;
-use super::extents::wide;
-use super::sound::body_length;
+// Listing a payload: a record for each block, in a list that the caller lends. The Rust's `parse_multiple`.
+use blocks::Extent;
+use blocks::extents::extent_of;
+use blocks::extents::wide;
+use blocks::sound::body_length;
 use wire::be_u16;
 ghost use mathlib.Core.Path.{_≡_};
 ghost use mathlib.Core.Bool.{cond};
 ghost use lib.ListN.{length};
-ghost use Rattle.blocks.specs.Listing.{refusalOf, staysAt, stepAt, listing, answerOf, filled};
+ghost use Rattle.listing.specs.Listing.{refusalOf, staysAt, stepAt, listing, answerOf, filled};
+
+// One block of a listing: its place, its type and its size field as it stands.
+#[repr(C)]
+pub struct Entry {
+    pub place: usize,
+    pub kind: u8,
+    pub size: u16,
+}
+
+// A record, and the place after its block.
+pub struct Step {
+    pub entry: Entry,
+    pub next: usize,
+}
+
+// What came of a listing: 0 and the count of blocks, or the number of the refusal and its place.
+#[repr(C)]
+pub struct Answer {
+    pub number: u32,
+    pub place: usize,
+    pub count: usize,
+}
 
 fn pick(c: bool, a: usize, b: usize) -> usize
     ensures { λ r. ⌜ r ≡ cond c a b ⌝ }
@@ -124,8 +143,7 @@ pub fn step_at(payload: &[u8], at: usize) -> Step
 }
 
 // Fills the list with a record for each block, or refuses and leaves it as it was.
-#[no_mangle]
-pub extern "C" fn list_blocks(payload: &[u8], list: &mut [Entry]) -> Answer
+pub fn list_blocks(payload: &[u8], list: &mut [Entry]) -> Answer
     ensures { λ r. ⌜ (r ≡ answerOf (listing (length (now (list .entry))) (now (payload .entry)))) × (now (list .exit) ≡ filled (listing (length (now (list .entry))) (now (payload .entry))) (now (list .entry))) ⌝ }
 {
     let answer = count_blocks(payload, list.len());

@@ -7,44 +7,21 @@ use native.Mathlib.Omega.{arith}
 use lib.Dec.{ltb}
 use lib.ListN.{length}
 use borrow.Author.Tests.{ltb-true, ltb-false, lt-ltb}
 use Rattle.blocks.specs.declared.Block.{Block}
 use Rattle.blocks.specs.declared.Extent.{Extent}
 use Rattle.blocks.specs.declared.Extent.the-variants as End
 use Rattle.blocks.specs.declared.Read.the-variants as Got
-use Rattle.blocks.specs.declared.Entry.{Entry}
+use Rattle.listing.specs.declared.Entry.{Entry}
 use Rattle.blocks.specs.Extent.{extentAt}
 use Rattle.blocks.specs.Reading.{blockAt, reading, readAt}
 use Rattle.blocks.specs.Writing.{kindOf}
-use Rattle.blocks.specs.Listing.{Listing, ok, no, entry, cons, onward, blocksFrom, blocksOf}
-use Rattle.blocks.specs.Claims.{Readings, Stops, ListingIsReadings, StepsAreTheListing}
-use Rattle.blocks.specs.Claims as Claims
+use Rattle.listing.specs.Listing.{Listing, ok, no, entry, cons, onward, blocksFrom, blocksOf}
+use Rattle.listing.specs.Claims.{Readings, Stops, ListingIsReadings, StepsAreTheListing}
+use Rattle.listing.specs.Claims as Claims
 use Rattle.blocks.proofs.Ends.{cut, refused-at}
-use Rattle.blocks.proofs.Walk.{goes-on, listed}
+use Rattle.listing.proofs.Walk.{goes-on, listed}
 use Rattle.blocks.proofs.Types.{kind-of-block}
-use Rattle.blocks.proofs.ReadThenWrite.{comes}
-
--- an extent is a reading, and a refusal is one
-read-of : (s : List ℕ) (at k z next : ℕ) → extentAt s at ≡ End.Ends k z next → readAt s at ≡ Got.Block (blockAt s (at + 3) k (next - (at + 3))) z next
-unfolding readAt
-read-of s at k z next e = ap (reading s at) e
-
-refused-of : (s : List ℕ) (at m p : ℕ) → extentAt s at ≡ End.Refused m p → readAt s at ≡ Got.Refused m p
-unfolding readAt
-refused-of s at m p e = ap (reading s at) e
-
-extent-refused : (s : List ℕ) (at m p : ℕ) → readAt s at ≡ Got.Refused m p → extentAt s at ≡ End.Refused m p
-unfolding readAt
-extent-refused s at m p e = go (extentAt s at) refl e
-  where
-    go : (x : Extent) → extentAt s at ≡ x → reading s at x ≡ Got.Refused m p → extentAt s at ≡ End.Refused m p
-    go (End.Ends k z next) q f = let o : _≡_ {A = ℕ} 0 1 = cc in absurd (omega arith)
-    go (End.Refused i j) q f = let x : i ≡ m = cc in let y : j ≡ p = cc in q ∙ ap (λ (n : ℕ). End.Refused n j) x ∙ ap (End.Refused m) y
-
--- a block that was read, with its type
-extent-read : (s : List ℕ) (at z next : ℕ) (b : Block) → readAt s at ≡ Got.Block b z next → extentAt s at ≡ End.Ends (kindOf b) z next
-extent-read s at z next b e =
-    let c = comes s at z next b e in
-    c .extent ∙ ap (λ (k : ℕ). End.Ends k z next) (sym (kind-of-block s (at + 3) (next - (at + 3)) (c .kind)) ∙ ap kindOf (c .value))
+use Rattle.blocks.proofs.ReadExtents.{read-of, refused-of, extent-refused, extent-read}
 
 -- ---- a listing is readings
 

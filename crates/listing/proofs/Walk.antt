@@ -9,15 +9,15 @@ use lib.Dec.{ltb, leb, eqb}
 use lib.ListN.{length, getD, drop}
 use lib.Seq.{sets, sets-eq}
 use borrow.Author.Tests.{ltb-true, ltb-false, leb-true, lt-ltb, le-ltb, le-leb, lt-leb, eqb-true, eqb-false}
 use Rattle.blocks.specs.declared.Extent.{Extent}
 use Rattle.blocks.specs.declared.Extent.the-variants as End
-use Rattle.blocks.specs.declared.Entry.{Entry}
-use Rattle.blocks.specs.declared.Step.{Step}
-use Rattle.blocks.specs.declared.Answer.{Answer}
+use Rattle.listing.specs.declared.Entry.{Entry}
+use Rattle.listing.specs.declared.Step.{Step}
+use Rattle.listing.specs.declared.Answer.{Answer}
 use Rattle.blocks.specs.Extent.{kindAt, sizeAt, extentAt}
 use Rattle.blocks.specs.Sound.{bodyLength}
-use Rattle.blocks.specs.Listing.{Listing, ok, no, entry, cons, onward, blocksFrom, blocksOf, limited, listing, counts, refusal, answerOf, filled, stepOver, staysAt, stepAt, entriesFrom}
+use Rattle.listing.specs.Listing.{Listing, ok, no, entry, cons, onward, blocksFrom, blocksOf, limited, listing, counts, refusal, answerOf, filled, stepOver, staysAt, stepAt, entriesFrom}
 use Rattle.blocks.proofs.Ends.{bounded}
 
 -- the one thing
 pub goes-on : (s : List ℕ) (at k z next : ℕ) → extentAt s at ≡ End.Ends k z next → (at + 3 ≤ next) × (next ≤ length s)

@@ -3,10 +3,10 @@ use mathlib.Core.Path.{_≡_, sym, ap, _∙_}
 use native.Mathlib.Omega.{arith}
 use Prim.Native.Nat.{ℕ, _+_, _-_, _<_, _≤_}
 use lib.ListN.{length}
-use Rattle.blocks.specs.Listing.{blocksOf, listing, answerOf, refusalOf}
-use Rattle.blocks.proofs.Walk.{rest, answerFrom, goes-on, at-start, at-end, turns, refuses, none-yet, one-more, no-more, no-more-over, nothing}
-use Rattle.blocks.proofs.listing.count_blocks.Statement.{statement}
-use Rattle.blocks.proofs.listing.count_blocks.Tie as tie
+use Rattle.listing.specs.Listing.{blocksOf, listing, answerOf, refusalOf}
+use Rattle.listing.proofs.Walk.{rest, answerFrom, goes-on, at-start, at-end, turns, refuses, none-yet, one-more, no-more, no-more-over, nothing}
+use Rattle.listing.proofs.count_blocks.Statement.{statement}
+use Rattle.listing.proofs.count_blocks.Tie as tie
 
 abbrev Inv-loop : tie.InvT-loop
 Inv-loop payload capacity at₀ n₀ over₀ at n over = (n ≤ at) × (answerFrom capacity n over (rest payload at) ≡ answerOf (listing capacity payload))

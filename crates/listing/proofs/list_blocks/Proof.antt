@@ -1,4 +1,4 @@
--- `blocks::listing::list_blocks` meets its contract: a walk of its MIR, by hand. It knows of `count_blocks` and `step_at` only that each meets its contract.
+-- `listing::list_blocks` meets its contract: a walk of its MIR, by hand. It knows of `count_blocks` and `step_at` only that each meets its contract.
 -- The borrow of the list is opened once, before the loop, and closed once, after it. A state of the loop is a `Turn`: what is left to store, with the facts that hold.
 -- Assumes nothing.
 use mathlib.Core.Path.{_≡_, refl, sym, _∙_, ap, subst}
@@ -50,30 +50,30 @@ use denote.Triple.Clauses.{ensured, lasts}
 use denote.Triple.Table.{entered, cited}
 use denote.Triple.Walked.{says, Stays, stay-none-slice, stay-slice, walkOf, goes-none-slice, goes-slice, Walks, ends-at, walked, walk-meets}
 use denote.Exit.{yes}
-use Rattle.blocks.specs.declared.Entry.{Entry}
-use Rattle.blocks.specs.declared.Step.{Step}
-use Rattle.blocks.specs.declared.Answer.{Answer}
-use Rattle.blocks.specs.Listing.{stepAt, listing, answerOf, filled, entriesFrom}
-use Rattle.blocks.proofs.Walk.{filling}
-use Rattle.blocks.proofs.Entry as T
-use Rattle.blocks.proofs.Entry.Laws as T′
-use Rattle.blocks.proofs.Step as S
-use Rattle.blocks.proofs.Step.Laws as S′
-use Rattle.blocks.proofs.Answer as L
-use Rattle.blocks.proofs.Answer.Laws as L′
-use Rattle.blocks.proofs.listing.count_blocks as count
-use Rattle.blocks.proofs.listing.count_blocks.Symbol as count-def
-use Rattle.blocks.proofs.listing.count_blocks.Symbol.{name as #blocks·listing·count-blocks}
-use Rattle.blocks.proofs.listing.count_blocks.Met as count-thm
-use Rattle.blocks.proofs.listing.step_at as step
-use Rattle.blocks.proofs.listing.step_at.Symbol as step-def
-use Rattle.blocks.proofs.listing.step_at.Symbol.{name as #blocks·listing·step-at}
-use Rattle.blocks.proofs.listing.step_at.Met as step-thm
-use Rattle.blocks.proofs.listing.list_blocks.Key.{name as #blocks·listing·list-blocks}
-use Rattle.blocks.proofs.listing.list_blocks as list-blocks
-use Rattle.blocks.proofs.listing.list_blocks.Statement as stated
-use Rattle.blocks.proofs.listing.list_blocks.Code as code
-use Rattle.blocks.proofs.listing.list_blocks.Code.Mir as mir
+use Rattle.listing.specs.declared.Entry.{Entry}
+use Rattle.listing.specs.declared.Step.{Step}
+use Rattle.listing.specs.declared.Answer.{Answer}
+use Rattle.listing.specs.Listing.{stepAt, listing, answerOf, filled, entriesFrom}
+use Rattle.listing.proofs.Walk.{filling}
+use Rattle.listing.proofs.Entry as T
+use Rattle.listing.proofs.Entry.Laws as T′
+use Rattle.listing.proofs.Step as S
+use Rattle.listing.proofs.Step.Laws as S′
+use Rattle.listing.proofs.Answer as L
+use Rattle.listing.proofs.Answer.Laws as L′
+use Rattle.listing.proofs.count_blocks as count
+use Rattle.listing.proofs.count_blocks.Symbol as count-def
+use Rattle.listing.proofs.count_blocks.Symbol.{name as #listing·count-blocks}
+use Rattle.listing.proofs.count_blocks.Met as count-thm
+use Rattle.listing.proofs.step_at as step
+use Rattle.listing.proofs.step_at.Symbol as step-def
+use Rattle.listing.proofs.step_at.Symbol.{name as #listing·step-at}
+use Rattle.listing.proofs.step_at.Met as step-thm
+use Rattle.listing.proofs.list_blocks.Key.{name as #listing·list-blocks}
+use Rattle.listing.proofs.list_blocks as list-blocks
+use Rattle.listing.proofs.list_blocks.Statement as stated
+use Rattle.listing.proofs.list_blocks.Code as code
+use Rattle.listing.proofs.list_blocks.Code.Mir as mir
 
 abbrev stayed : Stays (list-blocks.ended .signature .params) (list-blocks.ended .kept)
 stayed = (stay-none-slice (0 ∷ []) tt (plain (λ _. u8)) yes, (stay-slice (1 ∷ []) tt (plain (λ _. T.the-row)), tt))
@@ -179,7 +179,7 @@ module _ {M : Type 1} (𝓤 : URA M) (H : Heap 𝓤) (A : Atoms 𝓤) (W : Given
   abbrev mach : Step → Val
   mach = LL.val S.the-type S′.the-laws
 
-  module _ (𝓣 : Tables 𝓤 H) (known-count : Triple 𝓤 (𝓣 .C #blocks·listing·count-blocks) (Count 𝓤 H A at-mem run)) (known-step : Triple 𝓤 (𝓣 .C #blocks·listing·step-at) (StepAt 𝓤 H A at-mem run)) where
+  module _ (𝓣 : Tables 𝓤 H) (known-count : Triple 𝓤 (𝓣 .C #listing·count-blocks) (Count 𝓤 H A at-mem run)) (known-step : Triple 𝓤 (𝓣 .C #listing·step-at) (StepAt 𝓤 H A at-mem run)) where
     abbrev C : Calls 𝓤 H
     C = 𝓣 .C
 
@@ -313,7 +313,7 @@ module _ {M : Type 1} (𝓤 : URA M) (H : Heap 𝓤) (A : Atoms 𝓤) (W : Given
         assigns ! (of-opd ! (lit ! tt)) (from ! (stop !)) (init ! 17 refl (tt, record { fits = lit< tt })) $
         keep ! (3 ∷ 4 ∷ 5 ∷ 6 ∷ 7 ∷ 8 ∷ 9 ∷ 10 ∷ 11 ∷ 12 ∷ 13 ∷ 14 ∷ 15 ∷ 16 ∷ 17 ∷ 18 ∷ 19 ∷ 20 ∷ 21 ∷ 22 ∷ 23 ∷ 24 ∷ 25 ∷ 26 ∷ 27 ∷ 28 ∷ 29 ∷ 30 ∷ 2 ∷ 0 ∷ []) $ looped is l₀ l₁ l₂ l₃ l₄ l₅ l₆ l₇ l₈ l₉ l₁₀ l₁₁))))))))))))))))
 
-module _ {M : Type 1} (𝓤 : URA M) (H : Heap 𝓤) (A : Atoms 𝓤) (W : Given 𝓤 H A) (mem : Memory → SProp 𝓤) (run : Routine → Fun 𝓤) (𝓣 : Tables 𝓤 H) (known-count : Triple 𝓤 (𝓣 .C #blocks·listing·count-blocks) (Count 𝓤 H A mem run)) (known-step : Triple 𝓤 (𝓣 .C #blocks·listing·step-at) (StepAt 𝓤 H A mem run)) where
+module _ {M : Type 1} (𝓤 : URA M) (H : Heap 𝓤) (A : Atoms 𝓤) (W : Given 𝓤 H A) (mem : Memory → SProp 𝓤) (run : Routine → Fun 𝓤) (𝓣 : Tables 𝓤 H) (known-count : Triple 𝓤 (𝓣 .C #listing·count-blocks) (Count 𝓤 H A mem run)) (known-step : Triple 𝓤 (𝓣 .C #listing·step-at) (StepAt 𝓤 H A mem run)) where
   list-blocks-walks : Walks 𝓤 H A list-blocks.ended stayed (WpFn 𝓤 H (𝓣 .C) (𝓣 .Λ) code.function) (list-blocks.clauses 𝓤 H A mem run)
   list-blocks-walks = walked 𝓤 H A list-blocks.ended stayed (list-blocks.clauses 𝓤 H A mem run) (WpFn 𝓤 H (𝓣 .C) (𝓣 .Λ) code.function)
       (λ κs. (slice-vals, (slice-vals, tt))) (λ κs. (shr-slice-tells (named 0) (κs .0) u8, (mut-slice-tells (named 1) (κs .1 .0) R, tt)))
@@ -329,7 +329,7 @@ pub list-blocks-spec : {M : Type 1} → stated.statement M
 unfolding code.routine tablesOf
 list-blocks-spec 𝓤 H 𝓜 𝓖 𝓡 =
     entered 𝓤 H (tripleOf 𝓤 H (𝓖 .A) list-blocks.signature (list-blocks.spec 𝓤 H (𝓖 .A) (𝓜 .mem) (𝓡 .run)))
-    (tables 𝓤 H 𝓜 𝓡 code.env .C) (tables 𝓤 H 𝓜 𝓡 code.env .Λ) #blocks·listing·list-blocks code.function (code.unfolded 𝓤 H 𝓜 𝓡)
+    (tables 𝓤 H 𝓜 𝓡 code.env .C) (tables 𝓤 H 𝓜 𝓡 code.env .Λ) #listing·list-blocks code.function (code.unfolded 𝓤 H 𝓜 𝓡)
     (list-blocks-meets 𝓤 H (𝓖 .A) (givenOf 𝓤 H 𝓜 𝓖) (𝓜 .mem) (𝓡 .run) (tablesOf 𝓤 H 𝓜 (tables 𝓤 H 𝓜 𝓡 code.env))
-    (cited 𝓤 H (Count 𝓤 H (𝓖 .A) (𝓜 .mem) (𝓡 .run)) 𝓜 𝓡 code.env #blocks·listing·count-blocks count-def.routine code.calls-blocks·listing·count-blocks (count-thm.met 𝓤 H 𝓜 𝓖 𝓡))
-    (cited 𝓤 H (StepAt 𝓤 H (𝓖 .A) (𝓜 .mem) (𝓡 .run)) 𝓜 𝓡 code.env #blocks·listing·step-at step-def.routine code.calls-blocks·listing·step-at (step-thm.met 𝓤 H 𝓜 𝓖 𝓡)))
+    (cited 𝓤 H (Count 𝓤 H (𝓖 .A) (𝓜 .mem) (𝓡 .run)) 𝓜 𝓡 code.env #listing·count-blocks count-def.routine code.calls-listing·count-blocks (count-thm.met 𝓤 H 𝓜 𝓖 𝓡))
+    (cited 𝓤 H (StepAt 𝓤 H (𝓖 .A) (𝓜 .mem) (𝓡 .run)) 𝓜 𝓡 code.env #listing·step-at step-def.routine code.calls-listing·step-at (step-thm.met 𝓤 H 𝓜 𝓖 𝓡)))
