@@ -1,8 +1,6 @@
 // Where a block ends: the tests of a body, by family, and their refusals.
 use super::Extent;
 use super::Taken;
-use super::sound::body_length;
-use super::sound::is_sound;
 use wire::be_u16;
 ghost use mathlib.Core.Path.{_≡_};
 ghost use Prim.Native.Nat.{_+_, _<_, _≤_};
@@ -105,7 +103,7 @@ fn follow_on(size: usize, left: usize) -> Taken
 }
 
 // The bytes of an Ack's pairs: those above five if they are even, else none.
-pub fn pairs_in(size: usize) -> usize
+fn pairs_in(size: usize) -> usize
     requires { ⌜ size < 65536 ⌝ }
     ensures { λ r. ⌜ (r ≡ pairsIn size) × (r < 65536) ⌝ }
 {
@@ -176,23 +174,11 @@ pub fn extent_of(payload: &[u8], at: usize) -> Extent
     }
     let kind = payload[at];
     let size = be_u16(payload, at + 1);
-    let body = at + 3;
-    let need = body_length(kind, wide(size));
-    // a sound block, without a walk through the tests
-    if need <= payload.len() - body {
-        if is_sound(payload, body, kind, wide(size)) {
-            return Extent::Ends {
-                kind,
-                size,
-                next: body + need,
-            };
-        }
-    }
-    match taken_at(payload, body, kind, wide(size)) {
+    match taken_at(payload, at + 3, kind, wide(size)) {
         Taken::Bytes { count } => Extent::Ends {
             kind,
             size,
-            next: body + count,
+            next: at + 3 + count,
         },
         Taken::Refused { number } => Extent::Refused { number, place: at },
     }

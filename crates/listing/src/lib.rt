@@ -1,8 +1,8 @@
 // Listing a payload: a record for each block, in a list that the caller lends. The Rust's `parse_multiple`.
 use blocks::Extent;
-use blocks::extents::extent_of;
 use blocks::extents::wide;
 use blocks::sound::body_length;
+use blocks::sound::quick_extent;
 use wire::be_u16;
 ghost use mathlib.Core.Path.{_≡_};
 ghost use mathlib.Core.Bool.{cond};
@@ -76,7 +76,7 @@ pub fn count_blocks(payload: &[u8], capacity: usize) -> Answer
     let mut n = 0;
     let mut over = 0;
     while at < payload.len() {
-        let extent = extent_of(payload, at);
+        let extent = quick_extent(payload, at);
         let Extent::Ends {
             kind: _,
             size: _,
