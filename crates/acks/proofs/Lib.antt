@@ -17,3 +17,4 @@ pub mod Cases
 pub mod Recording
 pub mod InPlace
 pub mod Handed
+pub mod Refused

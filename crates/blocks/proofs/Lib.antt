@@ -7,3 +7,4 @@ pub mod Soundness
 pub mod WriteThenRead
 pub mod ReadThenWrite
 pub mod ReadExtents
+pub mod Refused

@@ -1,6 +1,7 @@
--- Fronts: laws of the three masks. Refusals: what follows from no refusal. Plain: the plain header put. Calls: what the calls answer. RoundTrip: its two claims.
+-- Fronts: laws of the three masks. Refusals: what follows from no refusal. Plain: the plain header put. Calls: what the calls answer. Refused: what a refusal leaves. RoundTrip: its two claims.
 pub mod Fronts
 pub mod Refusals
 pub mod Plain
 pub mod Calls
+pub mod Refused
 pub mod RoundTrip

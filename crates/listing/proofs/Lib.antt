@@ -1,3 +1,4 @@
 -- The laws that the crates above cite.
 pub mod Walk
 pub mod ListingIsReadings
+pub mod Refused

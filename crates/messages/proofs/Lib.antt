@@ -1,3 +1,4 @@
 -- The laws.
 pub mod Deliveries
 pub mod OfStore
+pub mod Refused

@@ -1,6 +1,8 @@
 -- The demands, proved.
 pub mod Acks
 pub mod Twelve
+pub mod Demand1
+pub mod Demand1Example
 pub mod Demand2
 pub mod Demand2Sent
 pub mod Demand3Marks

@@ -18,3 +18,4 @@ pub mod Fresh
 pub mod Steps
 pub mod Sweeps
 pub mod Refusals
+pub mod Refused

@@ -1,0 +1,62 @@
+-- Demand 1 holds, each part by the laws of its crate. Assumes nothing.
+use mathlib.Core.Path.{_≡_, refl, sym}
+use mathlib.Core.Logic.{_⊎_, inl, inr}
+use mathlib.Core.List.{List, [], _∷_}
+use Prim.Native.Nat.{ℕ}
+use lib.ListN.{length}
+use types.Run.{OneOf}
+use Rattle.header.proofs.Calls.{write-refused}
+use Rattle.header.proofs.Refused as Header
+use Rattle.blocks.specs.Reading.{readAt}
+use Rattle.blocks.proofs.Refused as Blocks
+use Rattle.listing.proofs.Refused as Listing
+use Rattle.acks.proofs.Refused as Acks
+use Rattle.reassembly.specs.Calls.{After, after, firstCall, followOnCall}
+use Rattle.reassembly.specs.Careful.{Careful}
+use Rattle.reassembly.proofs.Refusals.{careful-first, careful-follow-on}
+use Rattle.reassembly.proofs.Refused as Store
+use Rattle.messages.proofs.Refused as Messages
+use Rattle.promises.specs.Demand1.{StoreRefuses, StoreStays, Demand1}
+
+-- a number that is neither 0 nor 60 is one of the others
+others : (k : ℕ) (ks : List ℕ) (n : ℕ) → StoreRefuses n → OneOf (0 ∷ 60 ∷ k ∷ ks) n → OneOf (k ∷ ks) n
+others k ks n h (inl e) = absurd (h .0 e)
+others k ks n h (inr (inl e)) = absurd (h .1 e)
+others k ks n h (inr (inr e)) = e
+
+-- a careful call that refuses left everything
+stays : (rec room out : List ℕ) (x : After) → Careful rec room out x → StoreRefuses (x .reply .number) → x ≡ after (x .reply) rec room out
+stays rec room out x c h = go (c .refusal)
+  where
+    go : ((x .reply .number ≡ 0) ⊎ ((x .reply .number ≡ 60) ⊎ (x ≡ after (x .reply) rec room out))) → x ≡ after (x .reply) rec room out
+    go (inl e) = absurd (h .0 e)
+    go (inr (inl e)) = absurd (h .1 e)
+    go (inr (inr e)) = e
+
+pub demand1 : Demand1
+demand1 =
+    record {
+      header-read = λ k1 k2 p n e. (Header.read-numbers k1 k2 p n e, Header.read-leaves k1 k2 p n e);
+      header-written = λ k1 k2 f p h. (Header.write-numbers f (length p) h, sym (write-refused k1 k2 f p refl h .1));
+      block-read = λ s at n place e. (Blocks.read-numbers s at n place e .1, Blocks.read-numbers s at n place e .0);
+      blocks-listed = λ s list n place e. (Listing.list-numbers (length list) s n place e, Listing.list-leaves s list n place e);
+      block-written = λ b body room n e. (Blocks.write-numbers b body (length room) n e, Blocks.write-leaves b body room n e);
+      registered = λ t n h. (Acks.tracker-numbers t n h, Acks.tracker-stays t n h);
+      registered-there = λ rec n bytes h. (Acks.record-numbers rec n h, Acks.record-stays rec n bytes h);
+      reported = Acks.report-numbers;
+      ack-written = (Acks.ack-numbers, Acks.ack-leaves);
+      ack-expanded = λ through count pairs list h. (Acks.expand-numbers through count pairs (length list) h, Acks.expand-leaves through count pairs list h);
+      store-renewed = λ rec h. (Store.renew-numbers rec h, Store.renew-leaves rec h);
+      first-taken = λ rec room out l second v h. (
+        others 50 (52 ∷ 53 ∷ 54 ∷ 55 ∷ 56 ∷ 59 ∷ []) _ h (Store.first-numbers rec room out l second v),
+        stays rec room out (firstCall rec room out l second v) (careful-first rec room out l second v) h,
+      );
+      follow-on-taken = λ rec room out l second v h. (
+        others 50 (51 ∷ 52 ∷ 53 ∷ 54 ∷ 55 ∷ 56 ∷ 59 ∷ []) _ h (Store.follow-on-numbers rec room out l second v),
+        stays rec room out (followOnCall rec room out l second v) (careful-follow-on rec room out l second v) h,
+      );
+      delivery = λ s at rec room out second h. (
+        others 1 (2 ∷ 3 ∷ 4 ∷ 5 ∷ 6 ∷ 7 ∷ 8 ∷ 9 ∷ 50 ∷ 51 ∷ 52 ∷ 53 ∷ 54 ∷ 55 ∷ 56 ∷ 59 ∷ []) _ h (Messages.delivery-numbers s rec room out second at),
+        Messages.delivery-stays s rec room out second (readAt s at) (h .0) (h .1),
+      );
+    }

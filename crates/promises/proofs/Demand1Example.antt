@@ -1,0 +1,174 @@
+-- A refusal of each kind of call, computed, and what demand 1 says of it: no part is empty. Assumes nothing.
+use mathlib.Core.Path.{_≡_, refl}
+use mathlib.Core.Bool.{false}
+use mathlib.Core.List.{List, [], _∷_}
+use Prim.Native.Nat.{ℕ, zero, suc, _<_}
+use native.Mathlib.Omega.{arith}
+use lib.ListN.{length, getD, replicate}
+use Rattle.wire.specs.Parts.{part}
+use Rattle.wire.specs.Numbers.{Bytes, little, littleAt, big, bigAt}
+use Rattle.header.specs.declared.Fields.{Fields}
+use Rattle.header.specs.declared.Answer.the-variants as Header
+use Rattle.header.specs.Kinds.{isListed}
+use Rattle.header.specs.Reading.{readNumber, answerOf, leftBy}
+use Rattle.header.specs.Writing.{writeNumber, leftByWrite}
+use Rattle.blocks.specs.declared.Block.the-variants as Body
+use Rattle.blocks.specs.declared.Read.the-variants as Got
+use Rattle.blocks.specs.declared.Written.the-variants as Wrote
+use Rattle.blocks.specs.Extent.{address, takenAt, extentAt}
+use Rattle.blocks.specs.Reading.{readAt}
+use Rattle.listing.specs.declared.Entry.{Entry}
+use Rattle.listing.specs.Listing.{no, entry, blocksFrom, blocksOf, listing, filled}
+use Rattle.blocks.specs.Writing.{faulty, writing, roomAfter}
+use Rattle.acks.specs.Tracking.{fresh, mark, answerOf as trackerAnswer, registerOf}
+use Rattle.acks.specs.History.{answerTo}
+use Rattle.acks.specs.Reporting.{refusal, reportOf, ackInfo}
+use Rattle.acks.specs.Recorded.{short, trackerAt, registerThere, recordAfter, reportThere}
+use Rattle.acks.specs.AckBlocks.{ackWriting, ackRoom}
+use Rattle.acks.specs.Runs.{whole, total}
+use Rattle.acks.specs.Expanding.{expandAnswer, expandOf, listAfter}
+use Rattle.acks.proofs.Cases.{case-j}
+use Rattle.reassembly.specs.declared.judge.Label.{Label}
+use Rattle.reassembly.specs.Calls.{After, after, bare, isShort, badSize, offNumber, firstCall, followOnCall, renewal, renewed}
+use Rattle.messages.specs.Delivery.{left, nothing, delivered}
+use Rattle.promises.specs.Demand1.{Refuses, StoreRefuses}
+use Rattle.promises.proofs.Demand1.{demand1}
+
+-- a number of 01's is a refusal
+is-refusal : (n k : ℕ) → n ≡ suc k → Refuses n
+is-refusal n k e z = omega arith
+
+store-refusal : (n k : ℕ) → n ≡ suc k → k < 59 → StoreRefuses n
+store-refusal n k e h = (λ z. omega arith, λ z. omega arith)
+
+-- three bytes are no packet: 20
+abbrev three : List ℕ
+three = 1 ∷ 2 ∷ 3 ∷ []
+
+pub no-packet : answerOf three three three ≡ Header.Refused 20
+unfolding answerOf readNumber
+no-packet = refl
+
+pub packet-stays : leftBy three three three ≡ three
+packet-stays = demand1 .header-read three three three 20 no-packet .1
+
+-- type 3 is no header's: 21
+abbrev odd : Fields
+odd = record { kind = 3; destination = 0; number = 0; version = 2; network = 2; source = 0; token = 0; fragment = 0; count = 0; immediate = false }
+
+pub no-header : writeNumber odd 3 ≡ 21
+unfolding writeNumber isListed
+no-header = refl
+
+pub unwritten-stays : leftByWrite three three odd three ≡ three
+unwritten-stays = demand1 .header-written three three odd three (is-refusal (writeNumber odd 3) 20 no-header) .1
+
+-- (d): 8 at 0
+abbrev bad-address : List ℕ
+bad-address = 13 ∷ 0 ∷ 7 ∷ 31 ∷ 144 ∷ []
+
+pub no-block : readAt bad-address 0 ≡ Got.Refused 8 0
+unfolding readAt extentAt takenAt address bigAt big little part
+no-block = refl
+
+-- two blocks, and a list of one record: 10 at the second
+abbrev two-blocks : List ℕ
+two-blocks = 15 ∷ 0 ∷ 0 ∷ 15 ∷ 0 ∷ 0 ∷ []
+
+abbrev one-record : List Entry
+one-record = entry 9 9 9 ∷ []
+
+pub no-record : listing 1 two-blocks ≡ no 10 3
+unfolding listing blocksOf blocksFrom extentAt takenAt bigAt big little part
+no-record = refl
+
+pub list-stays : filled (listing 1 two-blocks) one-record ≡ one-record
+list-stays = demand1 .blocks-listed two-blocks one-record 10 3 no-record .1
+
+-- a block of three bytes, and a room of two: 30
+abbrev two : List ℕ
+two = 7 ∷ 7 ∷ []
+
+pub no-room : writing Body.RelayTagRequest [] 2 ≡ Wrote.Refused 30
+unfolding writing faulty
+no-room = refl
+
+pub room-stays : roomAfter Body.RelayTagRequest [] two ≡ two
+room-stays = demand1 .block-written Body.RelayTagRequest [] two 30 no-room .1
+
+-- (j): 40, by value and in place
+pub tracker-stays : registerOf fresh 256 .tracker ≡ fresh
+tracker-stays = demand1 .registered fresh 256 (is-refusal (registerOf fresh 256 .answer) 39 case-j) .1
+
+zeros : (n : ℕ) → Bytes (replicate n 0)
+zeros zero i = omega arith
+zeros (suc n) zero = omega arith
+zeros (suc n) (suc i) = zeros n i
+
+pub too-high : registerThere (replicate 259 0) 256 ≡ 40
+unfolding registerThere short registerOf trackerAnswer answerTo trackerAt littleAt little part
+too-high = refl
+
+pub record-stays : recordAfter (replicate 259 0) 256 ≡ replicate 259 0
+record-stays = demand1 .registered-there (replicate 259 0) 256 (zeros 259) (is-refusal (registerThere (replicate 259 0) 256) 39 too-high) .1
+
+-- nothing seen, nothing reported: 41
+pub no-report : reportThere (replicate 259 0) .number ≡ 41
+unfolding reportThere short trackerAt ackInfo reportOf mark refusal littleAt little part
+no-report = refl
+
+pub no-ack : ackWriting (reportThere (replicate 259 0)) 3 ≡ Wrote.Refused 41
+unfolding ackWriting reportThere short trackerAt ackInfo reportOf mark refusal littleAt little part
+no-ack = refl
+
+pub ack-room-stays : ackRoom (reportThere (replicate 259 0)) three ≡ three
+ack-room-stays = demand1 .ack-written .1 (reportThere (replicate 259 0)) three 41 no-ack
+
+-- four numbers below 3: 44
+pub below-0 : expandOf 3 4 [] 2 .number ≡ 44
+unfolding expandOf expandAnswer whole total
+below-0 = refl
+
+pub numbers-stay : listAfter 3 4 [] two ≡ two
+numbers-stay = demand1 .ack-expanded 3 4 [] two (is-refusal (expandOf 3 4 [] 2 .number) 43 below-0) .1
+
+-- two bytes are no store's record: 59
+pub no-store : renewal two ≡ 59
+unfolding renewal
+no-store = refl
+
+pub unrenewed-stays : renewed two ≡ two
+unrenewed-stays = demand1 .store-renewed two (is-refusal (renewal two) 58 no-store) .1
+
+-- on every record and room that are long enough, an empty piece is 50, and a follow-on of number 0 is 51
+module _ (rec room out : List ℕ) (long : isShort rec room ≡ false) (second : ℕ) where
+  abbrev label : Label
+  label = record { id = 1; number = 0; last = false; kind = 20; expires = 9 }
+
+  pub no-bytes : firstCall rec room out label second [] .reply .number ≡ 50
+  unfolding firstCall badSize bare
+  no-bytes = rw long refl
+
+  pub first-stays : firstCall rec room out label second [] ≡ after (firstCall rec room out label second [] .reply) rec room out
+  first-stays =
+      demand1 .first-taken rec room out label second []
+      (store-refusal (firstCall rec room out label second [] .reply .number) 49 no-bytes (omega arith)) .1
+
+  pub no-number : followOnCall rec room out label second (7 ∷ []) .reply .number ≡ 51
+  unfolding followOnCall badSize offNumber bare
+  no-number = rw long refl
+
+  pub follow-on-stays : followOnCall rec room out label second (7 ∷ []) ≡ after (followOnCall rec room out label second (7 ∷ []) .reply) rec room out
+  follow-on-stays =
+      demand1 .follow-on-taken rec room out label second (7 ∷ [])
+      (store-refusal (followOnCall rec room out label second (7 ∷ []) .reply .number) 50 no-number (omega arith)) .1
+
+  -- (d), delivered
+  pub no-delivery : delivered bad-address rec room out second (readAt bad-address 0) .received .number ≡ 8
+  unfolding delivered nothing readAt extentAt takenAt address bigAt big little part
+  no-delivery = refl
+
+  pub delivery-stays : delivered bad-address rec room out second (readAt bad-address 0) ≡ left (delivered bad-address rec room out second (readAt bad-address 0) .received) rec room out
+  delivery-stays =
+      demand1 .delivery bad-address 0 rec room out second
+      (store-refusal (delivered bad-address rec room out second (readAt bad-address 0) .received .number) 7 no-delivery (omega arith)) .1

@@ -1,0 +1,108 @@
+-- What each call answers is one of 01's numbers for it; and a record that is not made new stays. Assumes nothing.
+use mathlib.Core.Path.{_≡_, refl}
+use mathlib.Core.Logic.{inl, inr}
+use mathlib.Core.Bool.{Bool, true, false, cond, _&&_}
+use mathlib.Core.List.{List, [], _∷_}
+use Prim.Native.Nat.{ℕ, _+_}
+use lib.Dec.{eqb, ltb, leb}
+use lib.ListN.{length, replicate}
+use types.Run.{OneOf}
+use Rattle.wire.specs.Parts.{splice, same}
+use Rattle.reassembly.specs.declared.record.Head.{Head}
+use Rattle.reassembly.specs.declared.judge.Label.{Label}
+use Rattle.reassembly.specs.Record.{headAt, entryAt, pieceAt}
+use Rattle.reassembly.specs.Slots.{firstFrom, isOpenAs, isFree}
+use Rattle.reassembly.specs.Judge.{sameLabel, again, misfits, grownBy, isWhole}
+use Rattle.reassembly.specs.Message.{messageOf}
+use Rattle.reassembly.specs.Calls.{After, bare, finished, putIn, added, openedIn, openedNow, taken, isShort, badSize, offNumber, firstCall, followOnCall, renewed, renewal}
+
+-- kept and finished, then the refusals of a first piece, and of a follow-on
+abbrev pub firstNumbers : List ℕ
+firstNumbers = 0 ∷ 60 ∷ 50 ∷ 52 ∷ 53 ∷ 54 ∷ 55 ∷ 56 ∷ 59 ∷ []
+
+abbrev pub followOnNumbers : List ℕ
+followOnNumbers = 0 ∷ 60 ∷ 50 ∷ 51 ∷ 52 ∷ 53 ∷ 54 ∷ 55 ∷ 56 ∷ 59 ∷ []
+
+abbrev Says : After → Type 0
+Says x = OneOf firstNumbers (x .reply .number)
+
+-- a test decides between two
+both : (b : Bool) (x y : After) → Says x → Says y → Says (cond b x y)
+both true x y p q = p
+both false x y p q = q
+
+says-again : (h : Head) (l : Label) (held v : List ℕ) → OneOf firstNumbers (again h l held v)
+unfolding again
+says-again h l held v = go (sameLabel h l && same held v)
+  where
+    go : (b : Bool) → OneOf firstNumbers (cond b 54 55)
+    go true = inr (inr (inr (inr (inr (inl refl)))))
+    go false = inr (inr (inr (inr (inr (inr (inl refl))))))
+
+module _ (rec room out : List ℕ) (l : Label) (v : List ℕ) where
+  says-finished : (i : ℕ) (g : Head) → Says (finished rec room out i l g v)
+  unfolding finished bare
+  says-finished i g =
+      both (ltb (length out) (length (messageOf rec room i (l .number) v (g .last + 1)))) _ _ (inr (inr (inr (inr (inr (inr (inr (inl refl)))))))) (inr (inl refl))
+
+  says-put : (i : ℕ) (h : Head) → Says (putIn rec room out i h l v)
+  unfolding putIn bare
+  says-put i h =
+      both (ltb 65535 (h .total + length v)) _ _ (inr (inr (inr (inr (inl refl)))))
+      (both (isWhole (grownBy h l (length v))) _ _ (says-finished i (grownBy h l (length v))) (inl refl))
+
+  says-added : (i : ℕ) → Says (added rec room out i l v)
+  unfolding added bare
+  says-added i =
+      both (eqb (entryAt rec i (l .number) .len) 0) _ _
+      (both (misfits (headAt rec i) l) _ _ (inr (inr (inr (inr (inr (inr (inl refl))))))) (says-put i (headAt rec i)))
+      (says-again (headAt rec i) l (pieceAt rec room i (l .number)) v)
+
+  says-taken : (second : ℕ) → Says (taken rec room out l second v)
+  unfolding taken openedNow openedIn bare
+  says-taken second =
+      both (ltb (firstFrom (isOpenAs rec (l .id)) 0 16) 16) _ _
+      (says-added (firstFrom (isOpenAs rec (l .id)) 0 16))
+      (both (leb 16 (firstFrom (isFree rec) 0 16)) _ _ (inr (inr (inr (inl refl)))) (inl refl))
+
+-- 59, 50, then the others
+pub first-numbers : (rec room out : List ℕ) (l : Label) (second : ℕ) (v : List ℕ) → OneOf firstNumbers (firstCall rec room out l second v .reply .number)
+unfolding firstCall bare
+first-numbers rec room out l second v =
+    both (isShort rec room) _ _ (inr (inr (inr (inr (inr (inr (inr (inr refl))))))))
+    (both (badSize (length v)) _ _ (inr (inr (inl refl))) (says-taken rec room out l v second))
+
+-- a follow-on's numbers are a first piece's, and 51
+pub of-first : (n : ℕ) → OneOf firstNumbers n → OneOf followOnNumbers n
+of-first n (inl e) = inl e
+of-first n (inr (inl e)) = inr (inl e)
+of-first n (inr (inr (inl e))) = inr (inr (inl e))
+of-first n (inr (inr (inr e))) = inr (inr (inr (inr e)))
+
+pub follow-on-numbers : (rec room out : List ℕ) (l : Label) (second : ℕ) (v : List ℕ) → OneOf followOnNumbers (followOnCall rec room out l second v .reply .number)
+unfolding followOnCall bare
+follow-on-numbers rec room out l second v =
+    either (isShort rec room) _ _ (inr (inr (inr (inr (inr (inr (inr (inr (inr refl)))))))))
+    (either (badSize (length v)) _ _ (inr (inr (inl refl)))
+    (either (offNumber (l .number)) _ _ (inr (inr (inr (inl refl)))) (of-first _ (says-taken rec room out l v second))))
+  where
+    either : (b : Bool) (x y : After) → OneOf followOnNumbers (x .reply .number) → OneOf followOnNumbers (y .reply .number) → OneOf followOnNumbers (cond b x y .reply .number)
+    either true x y p q = p
+    either false x y p q = q
+
+-- a record that is not made new stays
+pub renew-leaves : (rec : List ℕ) → (renewal rec ≡ 0 → ⊥) → renewed rec ≡ rec
+unfolding renewal renewed
+renew-leaves rec = go (ltb (length rec) 8576)
+  where
+    go : (b : Bool) → (_≡_ {A = ℕ} (cond b 59 0) 0 → ⊥) → cond b rec (splice rec 0 (replicate 8576 0)) ≡ rec
+    go true ne = refl
+    go false ne = absurd (ne refl)
+
+pub renew-numbers : (rec : List ℕ) → (renewal rec ≡ 0 → ⊥) → renewal rec ≡ 59
+unfolding renewal
+renew-numbers rec = go (ltb (length rec) 8576)
+  where
+    go : (b : Bool) → (_≡_ {A = ℕ} (cond b 59 0) 0 → ⊥) → _≡_ {A = ℕ} (cond b 59 0) 59
+    go true ne = refl
+    go false ne = absurd (ne refl)
