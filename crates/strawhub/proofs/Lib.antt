@@ -1,3 +1,2 @@
 -- The laws.
-pub mod BlockLaws
 pub mod DeliveryLaws

@@ -2,6 +2,8 @@
 use Prim.Native.Nat.{ℕ}
 use Rattle.blocks.specs.declared.Written.{Written}
 use Rattle.blocks.specs.declared.Written.the-variants.{Length, Refused}
+use Rattle.blocks.specs.declared.Read.{Read}
+use Rattle.blocks.specs.declared.Read.the-variants as Got
 use Rattle.strawhub.specs.declared.outcomes.Outcome.{Outcome}
 
 -- a number and a value
@@ -12,3 +14,8 @@ outcome n v = record { number = n; value = v }
 abbrev pub written : Written → Outcome
 written (Length n) = outcome 0 n
 written (Refused m) = outcome m 0
+
+-- 0 and the place after the block, or the refusal and the block's place
+abbrev pub readOutcome : Read → Outcome
+readOutcome (Got.Block b size next) = outcome 0 next
+readOutcome (Got.Refused number place) = outcome number place

@@ -1,6 +1,7 @@
 use mathlib.Core.Path.{ap, _∙_}
 use Rattle.blocks.specs.declared.Read.{Read}
-use Rattle.strawhub.specs.BlockNumbers.{readOutcome, readNumbers}
+use Rattle.numbers.specs.BlockNumbers.{readNumbers}
+use Rattle.strawhub.specs.Outcomes.{readOutcome}
 use borrow.Author.Needs.{needs}
 use Rattle.strawhub.proofs.block_reads.strawhub_block_read.Statement.{statement}
 use Rattle.strawhub.proofs.block_reads.strawhub_block_read.Tie as tie
@@ -11,12 +12,15 @@ read-block-requires c κs = search needs
 put-block-numbers-requires : tie.Need-put-block-numbers-requires
 put-block-numbers-requires c κs = search needs
 
+read-outcome-requires : tie.Need-read-outcome-requires
+read-outcome-requires c κs = search needs
+
 returns : tie.Need-returns
 returns c = (
-  c .put-block-numbers .ensures .0 ∙ ap readOutcome (c .before .before .read-block .ensures),
-  c .put-block-numbers .ensures .1 ∙ ap (λ (r : Read). readNumbers r (c .before .before .before .before .args .out .now)) (c .before .before .read-block .ensures),
+  c .read-outcome .ensures ∙ ap readOutcome (c .before .before .before .read-block .ensures),
+  c .before .put-block-numbers .ensures ∙ ap (λ (r : Read). readNumbers r (c .before .before .before .before .before .args .out .now)) (c .before .before .before .read-block .ensures),
 )
 
 pub strawhub-block-read-spec : {M : Type 1} → statement M
 strawhub-block-read-spec =
-    tie.close (tie.spec read-block-requires put-block-numbers-requires returns)
+    tie.close (tie.spec read-block-requires put-block-numbers-requires read-outcome-requires returns)

@@ -1,21 +1,11 @@
-use mathlib.Core.Path.{sym, _∙_}
-use borrow.Author.Tests.{not-true, not-false}
-use Rattle.strawhub.proofs.BlockLaws.{unfit, fitting}
+use mathlib.Core.Path.{ap, _∙_}
+use Rattle.strawhub.specs.Outcomes.{written}
 use borrow.Author.Needs.{needs}
 use Rattle.strawhub.proofs.block_writes.strawhub_block_write.Statement.{statement}
 use Rattle.strawhub.proofs.block_writes.strawhub_block_write.Tie as tie
 
-fit-requires : tie.Need-fit-requires
-fit-requires c κs = search needs
-
-returns : tie.Need-returns
-returns c = let a = c .before .before .before .before .args in unfit (a .kind) (a .fields .now) (a .bytes .now) (a .room .now) (sym (c .before .fit .ensures) ∙ not-true (c .before .fit .result) (c .if1 .taken))
-
-block-by-requires : tie.Need-block-by-requires
-block-by-requires c κs = sym (c .before .fit .ensures) ∙ not-false (c .before .fit .result) (c .if1 .left)
-
-write-block-requires : tie.Need-write-block-requires
-write-block-requires c κs = search needs
+write-by-requires : tie.Need-write-by-requires
+write-by-requires c κs = search needs
 
 outcome-of-requires : tie.Need-outcome-of-requires
 outcome-of-requires c κs = search needs
@@ -23,17 +13,10 @@ outcome-of-requires c κs = search needs
 same-length : tie.Need-same-length
 same-length c = search needs
 
-returns-2 : tie.Need-returns-2
-returns-2 c = let a = c .before .before .before .before .before .before .before .before .before .before .args in fitting (a .kind) (a .fields .now) (a .bytes .now) (a .room .now) (c .before .before .before .before .before .block-by .result) (c .before .before .before .write-block .result) (c .outcome-of .result) (c .before .before .before .write-block .last .1 .1 .0) (sym (c .before .before .before .before .before .before .before .fit .ensures) ∙ not-false (c .before .before .before .before .before .before .before .fit .result) (c .before .before .before .before .before .before .if1 .left)) (c .before .before .before .before .before .block-by .ensures) (c .before .before .before .write-block .ensures .0) (c .before .before .before .write-block .ensures .1) (c .outcome-of .ensures)
+returns : tie.Need-returns
+returns c = (c .outcome-of .ensures ∙ ap written (c .before .before .before .write-by .ensures .0), c .before .before .before .write-by .ensures .1)
 
 pub strawhub-block-write-spec : {M : Type 1} → statement M
 strawhub-block-write-spec =
     tie.close
-    (tie.spec
-    fit-requires
-    returns
-    block-by-requires
-    write-block-requires
-    outcome-of-requires
-    same-length
-    returns-2)
+    (tie.spec write-by-requires outcome-of-requires same-length returns)

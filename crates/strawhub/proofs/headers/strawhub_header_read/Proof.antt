@@ -1,6 +1,6 @@
 use mathlib.Core.Path.{_≡_, ap, _∙_}
 use Rattle.header.specs.declared.Answer.{Answer}
-use Rattle.strawhub.specs.Headers.{answerNumber, answerNumbers}
+use Rattle.numbers.specs.Headers.{answerNumber, answerNumbers}
 use borrow.Author.Needs.{needs}
 use Rattle.strawhub.proofs.headers.strawhub_header_read.Statement.{statement}
 use Rattle.strawhub.proofs.headers.strawhub_header_read.Tie as tie
