@@ -1,3 +1,5 @@
 -- The laws.
 pub mod BlockLaws
 pub mod DeliveryLaws
+pub mod NumbersRefused
+pub mod Refused
