@@ -19,7 +19,7 @@ use Rattle.acks.specs.declared.report.AckInfo.{AckInfo}
 use Rattle.acks.specs.History.{answerTo}
 use Rattle.acks.specs.Tracking.{mark, held, answerOf, registerOf}
 use Rattle.acks.specs.Reporting.{refusal, pairBytes, reportOf, ackInfo}
-use Rattle.acks.specs.Recorded.{short, trackerAt, registerThere, recordAfter, reportThere}
+use Rattle.acks.specs.Recorded.{short, trackerAt, registerThere, recordAfter, duplicateThere, reportThere}
 use Rattle.acks.specs.AckBlocks.{ackBlock, ackWriting, ackRoom}
 use Rattle.acks.specs.Runs.{whole, total}
 use Rattle.acks.specs.Expanding.{numbers, expandAnswer, expandOf, listAfter}
@@ -86,14 +86,28 @@ module _ (top : ℕ) (got : ℕ → Bool) where
       go true e = (faithful top got e .even, faithful top got e .few)
       go false e = let w : _≡_ {A = ℕ} 41 0 = sym (ap (λ (y : AckInfo). y .number) (unheard top got e)) ∙ z in absurd (omega arith)
 
--- 41 or 59 where nothing is reported
+-- 41 where a tracker reports nothing; 59 too where its record is short
+pub tracker-report : (t : Tracker) → (ackInfo t .number ≡ 0 → ⊥) → ackInfo t .number ≡ 41
+unfolding ackInfo
+tracker-report t = is-41 (t .highest) (mark (t .marks))
+
 pub report-numbers : (r : List ℕ) → (reportThere r .number ≡ 0 → ⊥) → OneOf (41 ∷ 59 ∷ []) (reportThere r .number)
-unfolding reportThere refusal ackInfo
+unfolding reportThere refusal
 report-numbers r = go (short r)
   where
     go : (b : Bool) → (cond b (refusal 59) (ackInfo (trackerAt r)) .number ≡ 0 → ⊥) → OneOf (41 ∷ 59 ∷ []) (cond b (refusal 59) (ackInfo (trackerAt r)) .number)
     go true ne = inr refl
-    go false ne = inl (is-41 (trackerAt r .highest) (mark (trackerAt r .marks)) ne)
+    go false ne = inl (tracker-report (trackerAt r) ne)
+
+-- no, yes or 59
+pub duplicate-numbers : (r : List ℕ) (n : ℕ) → OneOf (0 ∷ 1 ∷ 59 ∷ []) (duplicateThere r n)
+unfolding duplicateThere
+duplicate-numbers r n = go (short r) (held (trackerAt r .highest) (trackerAt r .marks) n)
+  where
+    go : (a b : Bool) → OneOf (0 ∷ 1 ∷ 59 ∷ []) (cond a 59 (cond b 1 0))
+    go true b = inr (inr refl)
+    go false true = inr (inl refl)
+    go false false = inl refl
 
 -- the room of an Ack block
 pub ack-leaves : (r : AckInfo) (room : List ℕ) (m : ℕ) → ackWriting r (length room) ≡ Wrote.Refused m → ackRoom r room ≡ room

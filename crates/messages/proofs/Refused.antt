@@ -19,7 +19,6 @@ use Rattle.reassembly.specs.Calls.{After, after, firstCall, followOnCall}
 use Rattle.reassembly.specs.Careful.{Careful}
 use Rattle.reassembly.proofs.Refusals.{careful-first, careful-follow-on}
 use Rattle.reassembly.proofs.Refused.{followOnNumbers, of-first, first-numbers, follow-on-numbers}
-use Rattle.messages.specs.declared.Received.{Received}
 use Rattle.messages.specs.Delivery.{Left, left, nothing, wholeAt, rebuiltBy, rebuilt, deliveredBy, delivered}
 
 -- a piece's number is the store's

@@ -1,2 +1,3 @@
 -- The laws.
 pub mod BlockLaws
+pub mod Refused

@@ -16,7 +16,7 @@ use Rattle.reassembly.specs.Careful.{Careful}
 use Rattle.reassembly.proofs.Refusals.{careful-first, careful-follow-on}
 use Rattle.reassembly.proofs.Refused as Store
 use Rattle.messages.proofs.Refused as Messages
-use Rattle.promises.specs.Demand1.{StoreRefuses, StoreStays, Demand1}
+use Rattle.promises.specs.Demand1.{StoreRefuses, Demand1}
 
 -- a number that is neither 0 nor 60 is one of the others
 others : (k : ℕ) (ks : List ℕ) (n : ℕ) → StoreRefuses n → OneOf (0 ∷ 60 ∷ k ∷ ks) n → OneOf (k ∷ ks) n
@@ -43,7 +43,7 @@ demand1 =
       block-written = λ b body room n e. (Blocks.write-numbers b body (length room) n e, Blocks.write-leaves b body room n e);
       registered = λ t n h. (Acks.tracker-numbers t n h, Acks.tracker-stays t n h);
       registered-there = λ rec n bytes h. (Acks.record-numbers rec n h, Acks.record-stays rec n bytes h);
-      reported = Acks.report-numbers;
+      asked = (Acks.tracker-report, Acks.report-numbers, Acks.duplicate-numbers);
       ack-written = (Acks.ack-numbers, Acks.ack-leaves);
       ack-expanded = λ through count pairs list h. (Acks.expand-numbers through count pairs (length list) h, Acks.expand-leaves through count pairs list h);
       store-renewed = λ rec h. (Store.renew-numbers rec h, Store.renew-leaves rec h);

@@ -4,7 +4,7 @@ use mathlib.Core.Bool.{false}
 use mathlib.Core.List.{List, [], _∷_}
 use Prim.Native.Nat.{ℕ, zero, suc, _<_}
 use native.Mathlib.Omega.{arith}
-use lib.ListN.{length, getD, replicate}
+use lib.ListN.{replicate}
 use Rattle.wire.specs.Parts.{part}
 use Rattle.wire.specs.Numbers.{Bytes, little, littleAt, big, bigAt}
 use Rattle.header.specs.declared.Fields.{Fields}
@@ -29,7 +29,7 @@ use Rattle.acks.specs.Runs.{whole, total}
 use Rattle.acks.specs.Expanding.{expandAnswer, expandOf, listAfter}
 use Rattle.acks.proofs.Cases.{case-j}
 use Rattle.reassembly.specs.declared.judge.Label.{Label}
-use Rattle.reassembly.specs.Calls.{After, after, bare, isShort, badSize, offNumber, firstCall, followOnCall, renewal, renewed}
+use Rattle.reassembly.specs.Calls.{after, bare, isShort, badSize, offNumber, firstCall, followOnCall, renewal, renewed}
 use Rattle.messages.specs.Delivery.{left, nothing, delivered}
 use Rattle.promises.specs.Demand1.{Refuses, StoreRefuses}
 use Rattle.promises.proofs.Demand1.{demand1}

@@ -1,6 +1,6 @@
 -- Demand 1: bad input gets document 01's numbered refusal, and a refusal leaves state and lent buffers as they were.
 -- Every contract of a public call is an equation with the definitions below, on all inputs and with no `requires`: what is said of them is said of every call.
--- The sweep answers 0 always; asking a tracker and reading a block lend nothing to write.
+-- The sweep answers 0 always; who asks a tracker or reads a block lends nothing that could change.
 --
 -- 01's useless builds, and the promise that each of them breaks:
 --   a reader that refuses everything: header `WrittenIsRead`, blocks `WriteThenRead`: what the writers take is read; `Twelve` (a), (c), (e)
@@ -29,12 +29,13 @@ use Rattle.blocks.specs.Writing.{writing, roomAfter}
 use Rattle.acks.specs.declared.tracker.Tracker.{Tracker}
 use Rattle.acks.specs.declared.report.AckInfo.{AckInfo}
 use Rattle.acks.specs.Tracking.{registerOf}
-use Rattle.acks.specs.Recorded.{registerThere, recordAfter, reportThere}
+use Rattle.acks.specs.Reporting.{ackInfo}
+use Rattle.acks.specs.Recorded.{registerThere, recordAfter, duplicateThere, reportThere}
 use Rattle.acks.specs.AckBlocks.{ackWriting, ackRoom}
 use Rattle.acks.specs.Expanding.{expandOf, listAfter}
 use Rattle.reassembly.specs.declared.judge.Label.{Label}
 use Rattle.reassembly.specs.Calls.{After, after, firstCall, followOnCall, renewal, renewed}
-use Rattle.messages.specs.Delivery.{Left, left, delivered}
+use Rattle.messages.specs.Delivery.{left, delivered}
 
 -- An answer that is a number refuses where it is not 0; the store's where it is not 60 either, a finished message.
 abbrev pub Refuses : ℕ → Type 0
@@ -85,11 +86,14 @@ RegisteredThere =
     (rec : List ℕ) (n : ℕ) → Bytes rec → Refuses (registerThere rec n)
     → OneOf (40 ∷ 42 ∷ 43 ∷ 59 ∷ []) (registerThere rec n) × (recordAfter rec n ≡ rec)
 
--- asking for a report: 41 or 59
-abbrev pub Reported : Type 0
-Reported = (rec : List ℕ) → Refuses (reportThere rec .number) → OneOf (41 ∷ 59 ∷ []) (reportThere rec .number)
+-- asking for a report: 41, and 59 in place; asking whether a number is a duplicate: no, yes, or 59
+abbrev pub Asked : Type 0
+Asked =
+    ((t : Tracker) → Refuses (ackInfo t .number) → ackInfo t .number ≡ 41)
+    × ((rec : List ℕ) → Refuses (reportThere rec .number) → OneOf (41 ∷ 59 ∷ []) (reportThere rec .number))
+    × ((rec : List ℕ) (n : ℕ) → OneOf (0 ∷ 1 ∷ 59 ∷ []) (duplicateThere rec n))
 
--- the report as an Ack block: these and 30, and the room stays; it stays for every refused report
+-- the report as an Ack block: 30, 41 or 59, and the room stays, whatever the report
 abbrev pub AckWritten : Type 0
 AckWritten =
     ((rec : List ℕ) (room n : ℕ) → ackWriting (reportThere rec) room ≡ Wrote.Refused n → OneOf (30 ∷ 41 ∷ 59 ∷ []) n)
@@ -137,7 +141,7 @@ pub record Demand1 : Type 0 where
   pub block-written : BlockWritten
   pub registered : Registered
   pub registered-there : RegisteredThere
-  pub reported : Reported
+  pub asked : Asked
   pub ack-written : AckWritten
   pub ack-expanded : AckExpanded
   pub store-renewed : StoreRenewed

@@ -2,6 +2,7 @@
 pub mod Acks
 pub mod Twelve
 pub mod Demand1
+pub mod Demand1Calls
 pub mod Demand2
 pub mod Demand3
 pub mod Demand3Calls

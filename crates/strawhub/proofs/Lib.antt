@@ -1,2 +1,3 @@
 -- The laws.
 pub mod DeliveryLaws
+pub mod Refused

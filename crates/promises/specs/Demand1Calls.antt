@@ -1,0 +1,43 @@
+-- Demand 1 of the C calls: where one answers by numbers, its refusal leaves the lent numbers, records and rooms as they were. The other calls of strawhub are equations with the definitions of specs/Demand1.antt.
+use mathlib.Core.Path.{_≡_}
+use mathlib.Core.List.{List, [], _∷_}
+use Prim.Native.Nat.{ℕ}
+use lib.ListN.{length}
+use types.Run.{OneOf}
+use Rattle.header.specs.declared.Answer.{Answer}
+use Rattle.blocks.specs.declared.Read.{Read}
+use Rattle.listing.specs.declared.Entry.{Entry}
+use Rattle.listing.specs.Listing.{Listing, answerOf, filled}
+use Rattle.acks.specs.declared.report.AckInfo.{AckInfo}
+use Rattle.acks.specs.AckBlocks.{ackWriting, ackRoom}
+use Rattle.messages.specs.declared.Received.{Received}
+use Rattle.strawhub.specs.Outcomes.{written, readOutcome}
+use Rattle.strawhub.specs.Listings.{outcome}
+use Rattle.numbers.specs.Headers.{answerNumber, answerNumbers}
+use Rattle.numbers.specs.BlockNumbers.{readNumbers}
+use Rattle.numbers.specs.BlockFields.{writingBy, roomBy}
+use Rattle.strawhub.specs.Trackers.{newAnswer, newRecord, reportNumbers, reportPairs}
+use Rattle.strawhub.specs.Deliveries.{deliveryOutcome, deliveryNumbers}
+use Rattle.promises.specs.Demand1.{Refuses, StoreRefuses}
+
+pub record Demand1Calls : Type 0 where
+  -- strawhub_header_read, its eleven numbers
+  pub header-numbers : (a : Answer) (out : List ℕ) → Refuses (answerNumber a) → answerNumbers a out ≡ out
+  -- strawhub_block_read, its twelve numbers
+  pub block-numbers : (r : Read) (out : List ℕ) → Refuses (readOutcome r .number) → readNumbers r out ≡ out
+  -- strawhub_block_write: 30 to 32, and the room stays
+  pub block-room :
+      (kind : ℕ) (fields bytes room : List ℕ) → Refuses (written (writingBy kind fields bytes (length room)) .number)
+      → OneOf (30 ∷ 31 ∷ 32 ∷ []) (written (writingBy kind fields bytes (length room)) .number) × (roomBy kind fields bytes room ≡ room)
+  -- strawhub_block_list, its records
+  pub records : (x : Listing) (list : List Entry) → Refuses (outcome (answerOf x) .number) → filled x list ≡ list
+  -- strawhub_tracker_new: 59, and the record stays
+  pub new-tracker : (rec : List ℕ) → Refuses (newAnswer rec) → (newAnswer rec ≡ 59) × (newRecord rec ≡ rec)
+  -- strawhub_tracker_report, its three numbers and its pairs
+  pub report : (r : AckInfo) (out pairs : List ℕ) → Refuses (r .number) → (reportNumbers r out ≡ out) × (reportPairs r pairs ≡ pairs)
+  -- strawhub_tracker_ack_block, its room
+  pub ack-room : (r : AckInfo) (room : List ℕ) → Refuses (written (ackWriting r (length room)) .number) → ackRoom r room ≡ room
+  -- strawhub_block_deliver, its six numbers; its number is that of what was received
+  pub told :
+      (r : Received) (told : List ℕ) → StoreRefuses (deliveryOutcome r .number)
+      → (deliveryOutcome r .number ≡ r .number) × (deliveryNumbers r told ≡ told)
