@@ -9,7 +9,7 @@ FILE = crates/lister/stdin
 
 list:
 	@test -r "$(FILE)" || { echo "list: $(FILE) cannot be read"; exit 1; }
-	@echo "list: proving and building the lister (a minute from nothing)"
+	@echo "list: proving and building the lister (a minute or two from nothing)"
 	@mkdir -p target
 	@rt check lister >target/list.log 2>&1 || { cat target/list.log; exit 1; }
 	@tools/run lister <"$(FILE)"
