@@ -19,10 +19,6 @@ floorOf kind =
     (cond (eqb kind 21) 1
     0)))))))
 
--- those numbers, four bits a type: types 0 to 15, and 16 to 21
-abbrev pub rowOf : ℕ → ℕ
-rowOf kind = cond (ltb kind 16) 1407375034548420 1310916
-
 -- the types whose size is not looked at
 unfoldable pub ignoresSize : ℕ → Bool
 ignoresSize kind = ((((eqb kind 0 || eqb kind 15) || eqb kind 16) || eqb kind 17) || eqb kind 20) || eqb kind 21

@@ -12,7 +12,7 @@ ghost use Rattle.wire.specs.Parts.{splice};
 ghost use Rattle.wire.specs.Numbers.{bigBytes};
 ghost use Rattle.blocks.specs.Writing.{fieldLength, fieldBytes};
 
-pub fn put_u8(room: &mut [u8], at: usize, x: u8)
+pub(crate) fn put_u8(room: &mut [u8], at: usize, x: u8)
     requires { ⌜ at + 1 ≤ length (now room) ⌝ }
     ensures { λ _. ⌜ now (room .exit) ≡ splice (now (room .entry)) at (x ∷ []) ⌝ }
 {
@@ -115,7 +115,7 @@ fn put_options(room: &mut [u8], a: u8, b: u8, c: u8, d: u8, e: u16, f: u16, g: u
 }
 
 // A block's fields, after its type and size.
-pub fn put_fields(block: Block, room: &mut [u8])
+pub(crate) fn put_fields(block: Block, room: &mut [u8])
     requires { ⌜ 3 + fieldLength block ≤ length (now room) ⌝ }
     ensures { λ _. ⌜ now (room .exit) ≡ splice (now (room .entry)) 3 (fieldBytes block) ⌝ }
 {

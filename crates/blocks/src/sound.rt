@@ -9,7 +9,7 @@ ghost use mathlib.Core.Path.{_≡_};
 ghost use Prim.Native.Nat.{_+_, _<_, _≤_};
 ghost use lib.ListN.{length};
 ghost use Rattle.blocks.specs.Extent.{extentAt};
-ghost use Rattle.blocks.specs.Sound.{rowOf, floorOf, ignoresSize, counted, bodyLength, sound, tested};
+ghost use Rattle.blocks.specs.Sound.{floorOf, ignoresSize, counted, bodyLength, sound, tested};
 
 // The fewest bytes of a body, four bits a type from the lowest on: types 0 to 15, and 16 to 21.
 const LOW: usize = 0x5_0000_0900_00C4;
@@ -19,20 +19,14 @@ const HIGH: usize = 0x14_00C4;
 // The types whose size is not looked at, a bit each.
 const DEAF: u32 = 0x33_8001;
 
-fn row_of(kind: u8) -> usize
-    ensures { λ r. ⌜ r ≡ rowOf kind ⌝ }
-{
-    if kind < 16 {
-        return LOW;
-    }
-    HIGH
-}
-
 fn floor_of(kind: u8) -> usize
     requires { ⌜ kind < 22 ⌝ }
     ensures { λ r. ⌜ r ≡ floorOf kind ⌝ }
 {
-    (row_of(kind) >> (4 * (kind as u32 % 16))) % 16
+    if kind < 16 {
+        return (LOW >> (4 * (kind as u32))) % 16;
+    }
+    (HIGH >> (4 * (kind as u32 - 16))) % 16
 }
 
 fn ignores_size(kind: u8) -> bool
@@ -54,14 +48,13 @@ fn counted(kind: u8, size: usize) -> usize
 }
 
 // The bytes that a sound body takes.
-pub fn body_length(kind: u8, size: usize) -> usize
-    requires { ⌜ size < 65536 ⌝ }
+pub fn body_length(kind: u8, size: u16) -> usize
     ensures { λ r. ⌜ (r ≡ bodyLength kind size) × (r < 65536) ⌝ }
 {
     if 21 < kind {
-        return size;
+        return wide(size);
     }
-    at_least(floor_of(kind), counted(kind, size))
+    at_least(floor_of(kind), counted(kind, wide(size)))
 }
 
 // The tests by size alone.
@@ -77,7 +70,7 @@ fn is_tested(kind: u8, size: usize) -> bool
 }
 
 // Whether a body whose bytes are there is sound.
-pub fn is_sound(payload: &[u8], body: usize, kind: u8, size: usize) -> bool
+fn is_sound(payload: &[u8], body: usize, kind: u8, size: usize) -> bool
     requires { ⌜ (body + bodyLength kind size ≤ length (now payload)) × (size < 65536) ⌝ }
     ensures { λ r. ⌜ r ≡ sound (now (payload .entry)) body kind size ⌝ }
 {
@@ -103,7 +96,7 @@ pub fn quick_extent(payload: &[u8], at: usize) -> Extent
     let kind = payload[at];
     let size = be_u16(payload, at + 1);
     let body = at + 3;
-    let need = body_length(kind, wide(size));
+    let need = body_length(kind, size);
     if payload.len() - body < need {
         return extent_of(payload, at);
     }

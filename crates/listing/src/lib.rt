@@ -1,6 +1,5 @@
 // Listing a payload: a record for each block, in a list that the caller lends. The Rust's `parse_multiple`.
 use blocks::Extent;
-use blocks::extents::wide;
 use blocks::sound::body_length;
 use blocks::sound::quick_extent;
 use wire::be_u16;
@@ -128,7 +127,7 @@ pub fn step_at(payload: &[u8], at: usize) -> Step
     }
     let kind = payload[at];
     let size = be_u16(payload, at + 1);
-    let need = body_length(kind, wide(size));
+    let need = body_length(kind, size);
     if payload.len() - (at + 3) < need {
         return stays_at(at);
     }

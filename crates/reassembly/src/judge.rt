@@ -43,7 +43,7 @@ fn same_label(h: Head, l: Label) -> bool
 }
 
 // A piece whose number is held: 54 where it is an exact repeat, 55 where it is not.
-pub fn again(h: Head, l: Label, held: &[u8], bytes: &[u8]) -> u8
+pub(crate) fn again(h: Head, l: Label, held: &[u8], bytes: &[u8]) -> u8
     ensures { λ r. ⌜ r ≡ again h l (now (held .entry)) (now (bytes .entry)) ⌝ }
 {
     if same_label(h, l) & wire::same_bytes(held, bytes) {
@@ -53,7 +53,7 @@ pub fn again(h: Head, l: Label, held: &[u8], bytes: &[u8]) -> u8
 }
 
 // 55, of a piece whose number is not held: it is above the known last; or it is a last, below a held number or beside another last.
-pub fn misfits(h: Head, l: Label) -> bool
+pub(crate) fn misfits(h: Head, l: Label) -> bool
     ensures { λ r. ⌜ r ≡ misfits h l ⌝ }
 {
     ((0 < h.last) & (h.last < l.number)) | (l.last & ((l.number < h.top) | (0 < h.last)))
@@ -69,7 +69,7 @@ fn more_of(n: u8) -> u8
 }
 
 // The head with a piece of n bytes more.
-pub fn grown(h: Head, l: Label, n: u16) -> Head
+pub(crate) fn grown(h: Head, l: Label, n: u16) -> Head
     requires { ⌜ h .total + n ≤ 65535 ⌝ }
     ensures { λ r. ⌜ r ≡ grownBy h l n ⌝ }
 {
@@ -86,21 +86,21 @@ pub fn grown(h: Head, l: Label, n: u16) -> Head
     }
 }
 
-pub fn wide8(x: u8) -> usize
+pub(crate) fn wide8(x: u8) -> usize
     ensures { λ r. ⌜ (r ≡ x) × (r < 256) ⌝ }
 {
     x as usize
 }
 
 // A last number is known, and as many numbers are held as there are up to it.
-pub fn is_whole(h: Head) -> bool
+pub(crate) fn is_whole(h: Head) -> bool
     ensures { λ r. ⌜ r ≡ isWhole h ⌝ }
 {
     (0 < h.last) & (h.last < 128) & (wide8(h.count) == wide8(h.last) + 1)
 }
 
 // The head of a message that is opened now, with nothing held.
-pub fn new_head(l: Label, second: u64) -> Head
+pub(crate) fn new_head(l: Label, second: u64) -> Head
     ensures { λ r. ⌜ r ≡ newHead l second ⌝ }
 {
     Head {
@@ -116,7 +116,7 @@ pub fn new_head(l: Label, second: u64) -> Head
 }
 
 // The head of a free slot.
-pub fn no_head() -> Head
+pub(crate) fn no_head() -> Head
     ensures { λ r. ⌜ r ≡ noHead ⌝ }
 {
     Head {
@@ -132,7 +132,7 @@ pub fn no_head() -> Head
 }
 
 // A slot whose message was opened 30 seconds ago or earlier.
-pub fn is_old(h: Head, second: u64) -> bool
+pub(crate) fn is_old(h: Head, second: u64) -> bool
     ensures { λ r. ⌜ r ≡ isOld second h ⌝ }
 {
     if second < 30 {

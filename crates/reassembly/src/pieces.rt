@@ -7,7 +7,7 @@ ghost use Rattle.wire.specs.Parts.{splice};
 ghost use Rattle.reassembly.specs.Record.{pieceAt};
 ghost use Rattle.reassembly.specs.Message.{pieceOr, messageOf};
 
-pub fn wide16(x: u16) -> usize
+pub(crate) fn wide16(x: u16) -> usize
     ensures { λ r. ⌜ (r ≡ x) × (r < 65536) ⌝ }
 {
     x as usize
@@ -22,7 +22,7 @@ fn cut(place: usize, n: usize) -> usize
 }
 
 // Number k of slot i, as the part of the room that its entry names.
-pub fn piece<'a>(rec: &[u8], room: &'a [u8], i: usize, k: usize) -> &'a [u8]
+pub(crate) fn piece<'a>(rec: &[u8], room: &'a [u8], i: usize, k: usize) -> &'a [u8]
     requires { ⌜ (8576 ≤ length (now rec)) × (1048560 ≤ length (now room)) × (i < 16) × (k < 128) ⌝ }
     ensures { λ r. ⌜ now r ≡ pieceAt (now (rec .entry)) (now (room .entry)) i k ⌝ }
 {
@@ -48,7 +48,7 @@ fn length_of(rec: &[u8], room: &[u8], i: usize, m: usize, v: &[u8], k: usize) ->
 }
 
 // The length of the message of the numbers up to last, where number m is v.
-pub fn size(rec: &[u8], room: &[u8], i: usize, m: usize, v: &[u8], last: usize) -> usize
+pub(crate) fn size(rec: &[u8], room: &[u8], i: usize, m: usize, v: &[u8], last: usize) -> usize
     requires { ⌜ (8576 ≤ length (now rec)) × (1048560 ≤ length (now room)) × (i < 16) × (last < 128) × (length (now v) ≤ 1500) ⌝ }
     ensures { λ r. ⌜ r ≡ length (messageOf (now (rec .entry)) (now (room .entry)) i m (now (v .entry)) (last + 1)) ⌝ }
 {
@@ -85,7 +85,15 @@ fn lay_down(
 }
 
 // The message of the numbers up to last, where number m is v, is put to the start of out; the rest of out stays.
-pub fn assemble(rec: &[u8], room: &[u8], out: &mut [u8], i: usize, m: usize, v: &[u8], last: usize)
+pub(crate) fn assemble(
+    rec: &[u8],
+    room: &[u8],
+    out: &mut [u8],
+    i: usize,
+    m: usize,
+    v: &[u8],
+    last: usize,
+)
     requires { ⌜ (8576 ≤ length (now rec)) × (1048560 ≤ length (now room)) × (i < 16) × (last < 128) × (length (messageOf (now rec) (now room) i m (now v) (last + 1)) ≤ length (now out)) ⌝ }
     ensures { λ _. ⌜ now (out .exit) ≡ splice (now (out .entry)) 0 (messageOf (now (rec .entry)) (now (room .entry)) i m (now (v .entry)) (last + 1)) ⌝ }
 {

@@ -74,7 +74,7 @@ fn head_bytes(h: Head) -> [u8; 24]
 }
 
 // The head of slot i.
-pub fn load_head(rec: &[u8], i: usize) -> Head
+pub(crate) fn load_head(rec: &[u8], i: usize) -> Head
     requires { ⌜ (8576 ≤ length (now rec)) × (i < 16) ⌝ }
     ensures { λ r. ⌜ r ≡ headAt (now (rec .entry)) i ⌝ }
 {
@@ -83,7 +83,7 @@ pub fn load_head(rec: &[u8], i: usize) -> Head
     head_of(&rec[a..e])
 }
 
-pub fn save_head(rec: &mut [u8], i: usize, h: Head)
+pub(crate) fn save_head(rec: &mut [u8], i: usize, h: Head)
     requires { ⌜ (8576 ≤ length (now rec)) × (i < 16) ⌝ }
     ensures { λ _. ⌜ now (rec .exit) ≡ withHead (now (rec .entry)) i h ⌝ }
 {
@@ -102,7 +102,7 @@ fn entry_of(b: &[u8]) -> Entry
 }
 
 // The entry of number k in slot i.
-pub fn load_entry(rec: &[u8], i: usize, k: usize) -> Entry
+pub(crate) fn load_entry(rec: &[u8], i: usize, k: usize) -> Entry
     requires { ⌜ (8576 ≤ length (now rec)) × (i < 16) × (k < 128) ⌝ }
     ensures { λ r. ⌜ r ≡ entryAt (now (rec .entry)) i k ⌝ }
 {
@@ -111,7 +111,7 @@ pub fn load_entry(rec: &[u8], i: usize, k: usize) -> Entry
     entry_of(&rec[a..e])
 }
 
-pub fn save_entry(rec: &mut [u8], i: usize, k: usize, e: Entry)
+pub(crate) fn save_entry(rec: &mut [u8], i: usize, k: usize, e: Entry)
     requires { ⌜ (8576 ≤ length (now rec)) × (i < 16) × (k < 128) ⌝ }
     ensures { λ _. ⌜ now (rec .exit) ≡ withEntry (now (rec .entry)) i k e ⌝ }
 {
@@ -125,7 +125,7 @@ pub fn save_entry(rec: &mut [u8], i: usize, k: usize, e: Entry)
 }
 
 // n zeros from a place on; every other byte stays.
-pub fn clear(b: &mut [u8], at: usize, n: usize)
+pub(crate) fn clear(b: &mut [u8], at: usize, n: usize)
     requires { ⌜ at + n ≤ length (now b) ⌝ }
     ensures { λ _. ⌜ now (b .exit) ≡ splice (now (b .entry)) at (replicate n 0) ⌝ }
 {
@@ -137,7 +137,7 @@ pub fn clear(b: &mut [u8], at: usize, n: usize)
 }
 
 // No number of slot i is held.
-pub fn clear_entries(rec: &mut [u8], i: usize)
+pub(crate) fn clear_entries(rec: &mut [u8], i: usize)
     requires { ⌜ (8576 ≤ length (now rec)) × (i < 16) ⌝ }
     ensures { λ _. ⌜ now (rec .exit) ≡ cleared (now (rec .entry)) i ⌝ }
 {

@@ -15,7 +15,7 @@ fn opened_as(h: Head, id: u32) -> bool
 }
 
 // The slot of the open message with an id, or 16.
-pub fn find(rec: &[u8], id: u32) -> usize
+pub(crate) fn find(rec: &[u8], id: u32) -> usize
     requires { ⌜ 8576 ≤ length (now rec) ⌝ }
     ensures { λ r. ⌜ r ≡ firstFrom (isOpenAs (now (rec .entry)) id) 0 16 ⌝ }
 {
@@ -36,7 +36,7 @@ fn unused(h: Head) -> bool
 }
 
 // The first free slot, or 16.
-pub fn vacant(rec: &[u8]) -> usize
+pub(crate) fn vacant(rec: &[u8]) -> usize
     requires { ⌜ 8576 ≤ length (now rec) ⌝ }
     ensures { λ r. ⌜ r ≡ firstFrom (isFree (now (rec .entry))) 0 16 ⌝ }
 {

@@ -1,8 +1,7 @@
-use mathlib.Core.Path.{_≡_, sym, ap, _∙_}
+use mathlib.Core.Path.{_≡_, ap, _∙_}
 use Prim.Native.Nat.{ℕ, _+_}
 use native.Mathlib.Omega.{arith}
 use lib.ListN.{length}
-use borrow.Author.Tests.{le-leb, lt-leb}
 use Rattle.blocks.specs.Extent.{kindAt, sizeAt}
 use Rattle.blocks.specs.Sound.{bodyLength}
 use Rattle.listing.proofs.Walk.{no-step, step-over}
@@ -34,9 +33,6 @@ add-be-u16 c = search needs
 be-u16-requires : tie.Need-be-u16-requires
 be-u16-requires c κs = search needs
 
-wide-requires : tie.Need-wide-requires
-wide-requires c κs = search needs
-
 body-length-requires : tie.Need-body-length-requires
 body-length-requires c κs = search needs
 
@@ -50,16 +46,16 @@ stays-at-requires-3 : tie.Need-stays-at-requires-3
 stays-at-requires-3 c κs = search needs
 
 returns-3 : tie.Need-returns-3
-returns-3 c = let a = c .before .before .before .before .before .before .before .before .before .args in let n : c .before .before .body-length .result ≡ bodyLength (kindAt (a .payload .now) (a .at)) (sizeAt (a .payload .now) (a .at)) = c .before .before .body-length .ensures .0 ∙ ap (bodyLength (kindAt (a .payload .now) (a .at))) (c .before .before .before .wide .ensures .0 ∙ c .before .before .before .before .be-u16 .ensures) in c .stays-at3 .ensures ∙ no-step (a .payload .now) (a .at) (omega (arith, n))
-
-add-t6 : tie.Need-add-t6
-add-t6 c = search needs
+returns-3 c = let a = c .before .before .before .before .before .before .before .before .args in let n : c .before .before .body-length .result ≡ bodyLength (kindAt (a .payload .now) (a .at)) (sizeAt (a .payload .now) (a .at)) = c .before .before .body-length .ensures .0 ∙ ap (bodyLength (kindAt (a .payload .now) (a .at))) (c .before .before .before .be-u16 .ensures) in c .stays-at3 .ensures ∙ no-step (a .payload .now) (a .at) (omega (arith, n))
 
 add-t8 : tie.Need-add-t8
-add-t8 c = omega (arith, c .if3 .left)
+add-t8 c = search needs
+
+add-t6 : tie.Need-add-t6
+add-t6 c = omega (arith, c .if3 .left)
 
 returns-4 : tie.Need-returns-4
-returns-4 c = let a = c .before .before .before .before .before .before .before .before .args in step-over (a .payload .now) (a .at) (c .before .before .before .be-u16 .result) (c .before .body-length .result) (c .before .before .before .be-u16 .ensures) (c .before .body-length .ensures .0 ∙ ap (bodyLength (kindAt (a .payload .now) (a .at))) (c .before .before .wide .ensures .0 ∙ c .before .before .before .be-u16 .ensures)) (omega arith)
+returns-4 c = let a = c .before .before .before .before .before .before .before .args in step-over (a .payload .now) (a .at) (c .before .before .be-u16 .result) (c .before .body-length .result) (c .before .before .be-u16 .ensures) (c .before .body-length .ensures .0 ∙ ap (bodyLength (kindAt (a .payload .now) (a .at))) (c .before .before .be-u16 .ensures)) (omega arith)
 
 pub step-at-spec : {M : Type 1} → statement M
 step-at-spec =
@@ -73,12 +69,11 @@ step-at-spec =
     shared-slice-read-kind
     add-be-u16
     be-u16-requires
-    wide-requires
     body-length-requires
     add-if3
     sub-if3
     stays-at-requires-3
     returns-3
-    add-t6
     add-t8
+    add-t6
     returns-4)

@@ -39,9 +39,6 @@ be-u16-requires c κs = search needs
 add-body : tie.Need-add-body
 add-body c = search needs
 
-wide-requires : tie.Need-wide-requires
-wide-requires c κs = search needs
-
 body-length-requires : tie.Need-body-length-requires
 body-length-requires c κs = search needs
 
@@ -54,24 +51,24 @@ extent-of-requires-3 c κs = search needs
 returns-3 : tie.Need-returns-3
 returns-3 c = search needs
 
-wide-requires-2 : tie.Need-wide-requires-2
-wide-requires-2 c κs = search needs
+wide-requires : tie.Need-wide-requires
+wide-requires c κs = search needs
 
 is-sound-requires : tie.Need-is-sound-requires
-is-sound-requires c κs = let a = c .before .before .before .before .before .before .before .before .before .args in let n : c .before .before .body-length .result ≡ bodyLength (kindAt (a .payload .now) (a .at)) (c .wide2 .result) = c .before .before .body-length .ensures .0 ∙ ap (bodyLength (kindAt (a .payload .now) (a .at))) (c .before .before .before .wide .ensures .0 ∙ sym (c .wide2 .ensures .0)) in (omega (arith, n, c .before .if3 .left), c .wide2 .ensures .1)
+is-sound-requires c κs = let a = c .before .before .before .before .before .before .before .before .args in let n : c .before .before .body-length .result ≡ bodyLength (kindAt (a .payload .now) (a .at)) (c .wide .result) = c .before .before .body-length .ensures .0 ∙ ap (bodyLength (kindAt (a .payload .now) (a .at))) (sym (c .wide .ensures .0)) in (omega (arith, n, c .before .if3 .left), c .wide .ensures .1)
 
 add-t13 : tie.Need-add-t13
 add-t13 c = search needs
 
 returns-4 : tie.Need-returns-4
 returns-4 c =
-    let a = c .before .before .before .before .before .before .before .before .before .before .before .args in
+    let a = c .before .before .before .before .before .before .before .before .before .before .args in
     let k = kindAt (a .payload .now) (a .at) in
-    let z = c .before .before .before .before .before .before .be-u16 .result in
-    let n : c .before .before .before .before .body-length .result ≡ bodyLength k z = c .before .before .before .before .body-length .ensures .0 ∙ ap (bodyLength k) (c .before .before .before .before .before .wide .ensures .0) in
+    let z = c .before .before .before .before .before .be-u16 .result in
+    let n : c .before .before .before .before .body-length .result ≡ bodyLength k z = c .before .before .before .before .body-length .ensures .0 in
     let fits : bodyLength k z ≤ length (a .payload .now) - (a .at + 3) = omega (arith, n, c .before .before .before .if3 .left) in
-    let t : sound (a .payload .now) (a .at + 3) k z ≡ true = ap (sound (a .payload .now) (a .at + 3) k) (sym (c .before .before .wide2 .ensures .0)) ∙ sym (c .before .is-sound .ensures) ∙ c .if4 .taken in
-    ended (a .payload .now) (a .at) z (Take.Bytes (c .before .before .before .before .body-length .result)) (omega arith) (c .before .before .before .before .before .before .be-u16 .ensures) (sound-taken (a .payload .now) (a .at + 3) z k fits t ∙ ap Take.Bytes (sym n))
+    let t : sound (a .payload .now) (a .at + 3) k z ≡ true = ap (sound (a .payload .now) (a .at + 3) k) (sym (c .before .before .wide .ensures .0)) ∙ sym (c .before .is-sound .ensures) ∙ c .if4 .taken in
+    ended (a .payload .now) (a .at) z (Take.Bytes (c .before .before .before .before .body-length .result)) (omega arith) (c .before .before .before .before .before .be-u16 .ensures) (sound-taken (a .payload .now) (a .at + 3) z k fits t ∙ ap Take.Bytes (sym n))
 
 extent-of-requires-4 : tie.Need-extent-of-requires-4
 extent-of-requires-4 c κs = search needs
@@ -92,12 +89,11 @@ quick-extent-spec =
     add-be-u16
     be-u16-requires
     add-body
-    wide-requires
     body-length-requires
     sub-if3
     extent-of-requires-3
     returns-3
-    wide-requires-2
+    wide-requires
     is-sound-requires
     add-t13
     returns-4
