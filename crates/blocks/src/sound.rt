@@ -7,6 +7,8 @@ use super::extents::wide;
 use wire::be_u16;
 ghost use mathlib.Core.Path.{_≡_};
 ghost use Prim.Native.Nat.{_+_, _<_, _≤_};
+ghost use mathlib.Core.Bool.{cond};
+ghost use lib.Dec.{ltb};
 ghost use lib.ListN.{length};
 ghost use Rattle.blocks.specs.Extent.{extentAt};
 ghost use Rattle.blocks.specs.Sound.{floorOf, ignoresSize, counted, bodyLength, sound, tested};
@@ -19,14 +21,20 @@ const HIGH: usize = 0x14_00C4;
 // The types whose size is not looked at, a bit each.
 const DEAF: u32 = 0x33_8001;
 
+fn row_of(kind: u8) -> usize
+    ensures { λ r. ⌜ r ≡ cond (ltb kind 16) 1407375034548420 1310916 ⌝ }
+{
+    if kind < 16 {
+        return LOW;
+    }
+    HIGH
+}
+
 fn floor_of(kind: u8) -> usize
     requires { ⌜ kind < 22 ⌝ }
     ensures { λ r. ⌜ r ≡ floorOf kind ⌝ }
 {
-    if kind < 16 {
-        return (LOW >> (4 * (kind as u32))) % 16;
-    }
-    (HIGH >> (4 * (kind as u32 - 16))) % 16
+    (row_of(kind) >> (4 * (kind as u32 % 16))) % 16
 }
 
 fn ignores_size(kind: u8) -> bool
