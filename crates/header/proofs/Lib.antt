@@ -1,4 +1,4 @@
--- Fronts: laws of the three masks. Refusals: what follows from no refusal. Plain: the plain header put. Calls: what the calls answer. Refused: what a refusal leaves. RoundTrip: its two claims.
+-- Fronts: laws of the three masks. Refusals: which is given of two, what follows from none. Plain: the plain header put. Calls: what the calls answer. Refused: what a refusal leaves. RoundTrip: its two claims.
 pub mod Fronts
 pub mod Refusals
 pub mod Plain

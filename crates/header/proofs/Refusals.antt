@@ -1,4 +1,4 @@
--- What follows where a header is not refused. Assumes nothing.
+-- Which refusal is given where two hold, and what follows where a header is not refused. Assumes nothing.
 use mathlib.Core.Path.{_≡_, refl, sym, ap, ap₂, _∙_}
 use mathlib.Core.Bool.{Bool, true, false, cond, _&&_, _||_, not}
 use mathlib.Core.List.{List}
@@ -15,6 +15,16 @@ use Rattle.header.specs.Kinds.{isKeyed, isShort, isListed, isVersion, lo
 use Rattle.header.specs.Unmasking.{typeOf}
 use Rattle.header.specs.Reading.{refusalOf}
 use Rattle.header.specs.Writing.{writeNumber}
+
+-- a type that is not listed is 21, whatever stands for its version
+pub type-first : (q : List ℕ) (n : ℕ) → isListed (typeOf q) ≡ false → refusalOf q n ≡ 21
+unfolding refusalOf
+type-first q n e = rw e
+
+-- a nibble above 15 is 25, however short the packet
+pub nibbles-first : (f : Fields) (n : ℕ) → f .kind ≡ 2 → f .number ≡ 0 → (ltb 15 (f .fragment) || ltb 15 (f .count)) ≡ true → writeNumber f n ≡ 25
+unfolding writeNumber isListed
+nibbles-first f n t z e = rw (t, z, e)
 
 -- the first 16 bytes are enough to judge by
 pub refusal-front : (q : List ℕ) (n : ℕ) → refusalOf (part q 0 16) n ≡ refusalOf q n

@@ -16,7 +16,7 @@ pub extern "C" fn strawhub_header_read(
 ) -> u32
     ensures { λ r. ⌜ (r ≡ answerNumber (answerOf (now (k1 .entry)) (now (k2 .entry)) (now (pkt .entry)))) × (now (pkt .exit) ≡ leftBy (now (k1 .entry)) (now (k2 .entry)) (now (pkt .entry))) × (now (out .exit) ≡ answerNumbers (answerOf (now (k1 .entry)) (now (k2 .entry)) (now (pkt .entry))) (now (out .entry))) ⌝ }
 {
-    let answer = header::read(pkt, k1, k2);
+    let answer = packets::read(pkt, k1, k2);
     header_numbers::put_numbers(answer, out)
 }
 
@@ -51,5 +51,5 @@ pub extern "C" fn strawhub_header_write(
         count,
         immediate: immediate != 0,
     };
-    header::write(f, pkt, k1, k2)
+    packets::write(f, pkt, k1, k2)
 }
