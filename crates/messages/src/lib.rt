@@ -105,7 +105,7 @@ fn deliver(
             bytes,
         } => {
             let piece = shown(payload, bytes.start, bytes.len);
-            let r = reassembly::first_fragment(rec, room, out, id, kind, expiration, second, piece);
+            let r = store::first_fragment(rec, room, out, id, kind, expiration, second, piece);
             rebuilt_by(r, id)
         }
         Block::FollowOnFragment {
@@ -115,7 +115,7 @@ fn deliver(
             bytes,
         } => {
             let piece = shown(payload, bytes.start, bytes.len);
-            let r = reassembly::follow_on_fragment(rec, room, out, id, number, last, second, piece);
+            let r = store::follow_on_fragment(rec, room, out, id, number, last, second, piece);
             rebuilt_by(r, id)
         }
         _ => nothing(0, 0),

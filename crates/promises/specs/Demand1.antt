@@ -33,7 +33,7 @@ use Rattle.acks.specs.Reporting.{ackInfo}
 use Rattle.acks.specs.Recorded.{registerThere, recordAfter, duplicateThere, reportThere}
 use Rattle.acks.specs.AckBlocks.{ackWriting, ackRoom}
 use Rattle.acks.specs.Expanding.{expandOf, listAfter}
-use Rattle.reassembly.specs.declared.judge.Label.{Label}
+use Rattle.reassembly.specs.declared.Label.{Label}
 use Rattle.reassembly.specs.Calls.{After, after, firstCall, followOnCall, renewal, renewed}
 use Rattle.messages.specs.Delivery.{left, delivered}
 
