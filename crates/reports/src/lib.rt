@@ -9,7 +9,6 @@ ghost use Rattle.acks.specs.Reporting.{refusal, reportOf, ackInfo};
 ghost use Rattle.acks.specs.Recorded.{reportThere};
 use acks::AckInfo;
 use acks::Tracker;
-use tracker::marks;
 
 fn refused(number: u32) -> AckInfo
     ensures { λ r. ⌜ r ≡ refusal number ⌝ }

@@ -1,5 +1,4 @@
 // The tracker of received packet numbers, by value; in place is `recorded`. The Rust's `RemoteAckManager`.
-pub mod marks;
 pub mod recorded;
 
 ghost use mathlib.Core.Path.{_≡_};

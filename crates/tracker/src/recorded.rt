@@ -1,7 +1,6 @@
 // The tracker as 259 bytes that a caller lends, changed in place: a C call copies no record. All zero is a new tracker.
 ghost use mathlib.Core.Path.{_≡_};
 ghost use Rattle.acks.specs.Recorded.{registerThere, recordAfter, duplicateThere};
-use crate::marks;
 
 // Answers 59 where the record is short, else as a registration by value does.
 pub fn register_in(tracker: &mut [u8], n: u32) -> u32

@@ -14,7 +14,7 @@ pub fn marked(m: &[u8], n: u32) -> bool
 }
 
 // Whether n is in the window that ends at top, and marked.
-pub(crate) fn holds(m: &[u8], top: u32, n: u32) -> bool
+pub fn holds(m: &[u8], top: u32, n: u32) -> bool
     requires { ⌜ length (now m) ≡ 255 ⌝ }
     ensures { λ r. ⌜ r ≡ held top (now (m .entry)) n ⌝ }
 {
@@ -28,7 +28,7 @@ pub(crate) fn holds(m: &[u8], top: u32, n: u32) -> bool
 }
 
 // What a registration of n answers.
-pub(crate) fn answer(m: &[u8], top: u32, n: u32) -> u32
+pub fn answer(m: &[u8], top: u32, n: u32) -> u32
     requires { ⌜ length (now m) ≡ 255 ⌝ }
     ensures { λ r. ⌜ r ≡ answerTo top (held top (now (m .entry))) n ⌝ }
 {
@@ -64,14 +64,14 @@ fn gap(top: u32, n: u32) -> u32
     if top < n { n - top - 1 } else { 0 }
 }
 
-pub(crate) fn larger(top: u32, n: u32) -> u32
+pub fn larger(top: u32, n: u32) -> u32
     ensures { λ r. ⌜ r ≡ max top n ⌝ }
 {
     if top < n { n } else { top }
 }
 
 // The marks once n was accepted: top's too, which is number 0's with the first number.
-pub(crate) fn accept(m: &mut [u8], top: u32, n: u32)
+pub fn accept(m: &mut [u8], top: u32, n: u32)
     requires { ⌜ length (now m) ≡ 255 ⌝ }
     ensures { λ _. ⌜ now (m .exit) ≡ marksAfter (now (m .entry)) top n ⌝ }
 {

@@ -1,8 +1,8 @@
 use Rattle.acks.specs.Tracking.{mark}
 use mathlib.Core.Path.{refl}
 use borrow.Author.Needs.{needs}
-use Rattle.tracker.proofs.marks.marked.Statement.{statement}
-use Rattle.tracker.proofs.marks.marked.Tie as tie
+use Rattle.marks.proofs.marked.Statement.{statement}
+use Rattle.marks.proofs.marked.Tie as tie
 
 cast-i : tie.Need-cast-i
 cast-i c = search needs

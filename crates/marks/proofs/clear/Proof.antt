@@ -5,8 +5,8 @@ use native.Mathlib.Numerals.{add-one}
 use borrow.Author.Needs.{needs}
 use lib.ListN.{length, set, length-set}
 use Rattle.acks.specs.Tracking.{clearUp}
-use Rattle.tracker.proofs.marks.clear.Statement.{statement}
-use Rattle.tracker.proofs.marks.clear.Tie as tie
+use Rattle.marks.proofs.clear.Statement.{statement}
+use Rattle.marks.proofs.clear.Tie as tie
 
 abbrev Inv-loop : tie.InvT-loop
 Inv-loop m₀ a d k₀ m k = (k ≤ d) × (m ≡ clearUp m₀ a k) × (length m ≡ length m₀)

@@ -6,8 +6,8 @@ use borrow.Author.Tests.{lt-leb, le-leb, le-ltb, lt-ltb}
 use Rattle.acks.specs.History.{answerTo}
 use Rattle.acks.specs.Tracking.{held}
 use borrow.Author.Needs.{needs}
-use Rattle.tracker.proofs.marks.answer.Statement.{statement}
-use Rattle.tracker.proofs.marks.answer.Tie as tie
+use Rattle.marks.proofs.answer.Statement.{statement}
+use Rattle.marks.proofs.answer.Tie as tie
 
 add-if1 : tie.Need-add-if1
 add-if1 c = search needs

@@ -4,8 +4,8 @@ use borrow.Author.Tests.{lt-leb, le-leb, le-ltb, lt-ltb}
 use Rattle.acks.specs.Window.{inWindow}
 use Rattle.acks.specs.Tracking.{held}
 use borrow.Author.Needs.{needs}
-use Rattle.tracker.proofs.marks.holds.Statement.{statement}
-use Rattle.tracker.proofs.marks.holds.Tie as tie
+use Rattle.marks.proofs.holds.Statement.{statement}
+use Rattle.marks.proofs.holds.Tie as tie
 
 returns : tie.Need-returns
 unfolding held inWindow

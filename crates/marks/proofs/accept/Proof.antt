@@ -2,8 +2,8 @@ use native.Mathlib.Omega.{arith}
 use lib.ListN.{length-set}
 use Rattle.acks.specs.Tracking.{marksAfter}
 use borrow.Author.Needs.{needs}
-use Rattle.tracker.proofs.marks.accept.Statement.{statement}
-use Rattle.tracker.proofs.marks.accept.Tie as tie
+use Rattle.marks.proofs.accept.Statement.{statement}
+use Rattle.marks.proofs.accept.Tie as tie
 
 cast-at : tie.Need-cast-at
 cast-at c = search needs
