@@ -13,7 +13,7 @@ use Rattle.blocks.specs.declared.Written.{Written}
 use Rattle.blocks.specs.declared.Written.the-variants as Wrote
 use Rattle.listing.specs.declared.Entry.{Entry}
 use Rattle.listing.specs.Listing.{Listing, ok, no, answerOf, filled}
-use Rattle.acks.specs.declared.report.AckInfo.{AckInfo}
+use Rattle.acks.specs.declared.AckInfo.{AckInfo}
 use Rattle.acks.specs.Recorded.{short}
 use Rattle.acks.specs.AckBlocks.{ackWriting, ackRoom}
 use Rattle.acks.proofs.Refused.{ack-leaves}

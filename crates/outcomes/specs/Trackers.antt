@@ -6,7 +6,7 @@ use lib.Dec.{eqb}
 use lib.ListN.{replicate}
 use Rattle.wire.specs.Parts.{splice}
 use Rattle.acks.specs.Recorded.{short}
-use Rattle.acks.specs.declared.report.AckInfo.{AckInfo}
+use Rattle.acks.specs.declared.AckInfo.{AckInfo}
 
 -- 59 where the record is short
 unfoldable pub newAnswer : List ℕ → ℕ

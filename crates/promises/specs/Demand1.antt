@@ -26,8 +26,8 @@ use Rattle.blocks.specs.Reading.{readAt}
 use Rattle.listing.specs.declared.Entry.{Entry}
 use Rattle.listing.specs.Listing.{no, listing, filled}
 use Rattle.blocks.specs.Writing.{writing, roomAfter}
-use Rattle.acks.specs.declared.tracker.Tracker.{Tracker}
-use Rattle.acks.specs.declared.report.AckInfo.{AckInfo}
+use Rattle.acks.specs.declared.Tracker.{Tracker}
+use Rattle.acks.specs.declared.AckInfo.{AckInfo}
 use Rattle.acks.specs.Tracking.{registerOf}
 use Rattle.acks.specs.Reporting.{ackInfo}
 use Rattle.acks.specs.Recorded.{registerThere, recordAfter, duplicateThere, reportThere}

@@ -8,7 +8,7 @@ use Rattle.header.specs.declared.Answer.{Answer}
 use Rattle.blocks.specs.declared.Read.{Read}
 use Rattle.listing.specs.declared.Entry.{Entry}
 use Rattle.listing.specs.Listing.{Listing, answerOf, filled}
-use Rattle.acks.specs.declared.report.AckInfo.{AckInfo}
+use Rattle.acks.specs.declared.AckInfo.{AckInfo}
 use Rattle.acks.specs.AckBlocks.{ackWriting, ackRoom}
 use Rattle.messages.specs.declared.Received.{Received}
 use Rattle.outcomes.specs.Outcomes.{written, readOutcome}

@@ -8,8 +8,8 @@ ghost use Rattle.acks.specs.Expanding.{expandOf, listAfter};
 ghost use Rattle.acks.specs.AckBlocks.{ackWriting, ackRoom};
 ghost use Rattle.outcomes.specs.Outcomes.{written};
 ghost use Rattle.outcomes.specs.Trackers.{newAnswer, newRecord, reportNumbers, reportPairs};
-use acks::expand::Expanded;
-use acks::report::AckInfo;
+use acks::AckInfo;
+use acks::Expanded;
 use outcomes::Outcome;
 use outcomes::outcome_of;
 
@@ -31,7 +31,7 @@ pub extern "C" fn strawhub_tracker_new(tracker: &mut [u8]) -> u32
 pub extern "C" fn strawhub_tracker_register(tracker: &mut [u8], n: u32) -> u32
     ensures { λ r. ⌜ (r ≡ registerThere (now (tracker .entry)) n) × (now (tracker .exit) ≡ recordAfter (now (tracker .entry)) n) ⌝ }
 {
-    acks::recorded::register_in(tracker, n)
+    tracker::recorded::register_in(tracker, n)
 }
 
 // Whether a number is in the window and received: 1 for yes, 0 for no, 59 where the record is short.
@@ -39,7 +39,7 @@ pub extern "C" fn strawhub_tracker_register(tracker: &mut [u8], n: u32) -> u32
 pub extern "C" fn strawhub_tracker_duplicate(tracker: &[u8], n: u32) -> u32
     ensures { λ r. ⌜ r ≡ duplicateThere (now (tracker .entry)) n ⌝ }
 {
-    acks::recorded::is_duplicate_in(tracker, n)
+    tracker::recorded::is_duplicate_in(tracker, n)
 }
 
 fn put_report(r: AckInfo, out: &mut [u64; 3], pairs: &mut [u8; 254]) -> u32
@@ -64,7 +64,7 @@ pub extern "C" fn strawhub_tracker_report(
 ) -> u32
     ensures { λ n. ⌜ (n ≡ reportThere (now (tracker .entry)) .number) × (now (out .exit) ≡ reportNumbers (reportThere (now (tracker .entry))) (now (out .entry))) × (now (pairs .exit) ≡ reportPairs (reportThere (now (tracker .entry))) (now (pairs .entry))) ⌝ }
 {
-    let r = acks::recorded::report_in(tracker);
+    let r = reports::report_in(tracker);
     put_report(r, out, pairs)
 }
 
@@ -73,8 +73,8 @@ pub extern "C" fn strawhub_tracker_report(
 pub extern "C" fn strawhub_tracker_ack_block(tracker: &[u8], room: &mut [u8]) -> Outcome
     ensures { λ r. ⌜ (r ≡ written (ackWriting (reportThere (now (tracker .entry))) (length (now (room .entry))))) × (now (room .exit) ≡ ackRoom (reportThere (now (tracker .entry))) (now (room .entry))) ⌝ }
 {
-    let r = acks::recorded::report_in(tracker);
-    let w = acks::ack_block::write_ack(r, room);
+    let r = reports::report_in(tracker);
+    let w = reports::ack_block::write_ack(r, room);
     outcome_of(w)
 }
 
@@ -88,5 +88,5 @@ pub extern "C" fn strawhub_ack_expand(
 ) -> Expanded
     ensures { λ r. ⌜ (r ≡ expandOf through count (now (pairs .entry)) (length (now (list .entry)))) × (now (list .exit) ≡ listAfter through count (now (pairs .entry)) (now (list .entry))) ⌝ }
 {
-    acks::expand::expand(through, count, pairs, list)
+    expand::expand(through, count, pairs, list)
 }

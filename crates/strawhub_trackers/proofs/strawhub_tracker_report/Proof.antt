@@ -1,5 +1,5 @@
 use mathlib.Core.Path.{_≡_, refl, sym, ap, _∙_}
-use Rattle.acks.specs.declared.report.AckInfo.{AckInfo}
+use Rattle.acks.specs.declared.AckInfo.{AckInfo}
 use Rattle.outcomes.specs.Trackers.{reportNumbers, reportPairs}
 use borrow.Author.Needs.{needs}
 use Rattle.strawhub_trackers.proofs.strawhub_tracker_report.Statement.{statement}
