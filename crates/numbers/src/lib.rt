@@ -1,4 +1,13 @@
-// Headers and blocks as plain numbers, as the C calls pass them.
-pub mod block_reads;
-pub mod block_writes;
-pub mod headers;
+// Headers and blocks as plain numbers, as the C calls pass them: the definitions and their laws. What makes the numbers, and a block of them, stands in the crates above.
+ghost use mathlib.Core.Path.{_≡_};
+ghost use mathlib.Core.Bool.{cond};
+
+// A flag of a header or of a block.
+pub fn flag(b: bool) -> u64
+    ensures { λ r. ⌜ r ≡ cond b 1 0 ⌝ }
+{
+    if b {
+        return 1;
+    }
+    0
+}

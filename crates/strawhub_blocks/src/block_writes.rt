@@ -16,6 +16,6 @@ pub extern "C" fn strawhub_block_write(
 ) -> Outcome
     ensures { λ r. ⌜ (r ≡ written (writingBy kind (now (fields .entry)) (now (bytes .entry)) (length (now (room .entry))))) × (now (room .exit) ≡ roomBy kind (now (fields .entry)) (now (bytes .entry)) (now (room .entry))) ⌝ }
 {
-    let w = numbers::block_writes::write_by(kind, fields, bytes, room);
+    let w = block_fields::write_by(kind, fields, bytes, room);
     outcome_of(w)
 }

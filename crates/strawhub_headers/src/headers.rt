@@ -17,7 +17,7 @@ pub extern "C" fn strawhub_header_read(
     ensures { λ r. ⌜ (r ≡ answerNumber (answerOf (now (k1 .entry)) (now (k2 .entry)) (now (pkt .entry)))) × (now (pkt .exit) ≡ leftBy (now (k1 .entry)) (now (k2 .entry)) (now (pkt .entry))) × (now (out .exit) ≡ answerNumbers (answerOf (now (k1 .entry)) (now (k2 .entry)) (now (pkt .entry))) (now (out .entry))) ⌝ }
 {
     let answer = header::read(pkt, k1, k2);
-    numbers::headers::put_numbers(answer, out)
+    header_numbers::put_numbers(answer, out)
 }
 
 // Writes and masks a header by numbers; the answer is 0 or the refusal, and refused the packet is as it came. Any flag but 0 asks for an immediate ack.
