@@ -41,7 +41,7 @@ pub fn write_ack(report: AckInfo, room: &mut [u8]) -> Written
     if number != 0 {
         return Written::Refused { number };
     }
-    blocks::writing::write_block(block_of(report), &pairs[..len], room)
+    writer::write_block(block_of(report), &pairs[..len], room)
 }
 
 // The pairs are a part of the payload that the block was read from; what lies outside of it is not there.
