@@ -71,7 +71,7 @@ fn like_oracle(text: &[u8], at: usize, t: Tracker) -> bool {
 
 // How many numbers an Ack block at a room's start names, into a list; 0 where it is refused or none.
 fn named_in(room: &[u8], list: &mut [u32; 512]) -> usize {
-    let read = blocks::reading::read_block(room, 0);
+    let read = reader::read_block(room, 0);
     let Read::Block {
         block,
         size: _,

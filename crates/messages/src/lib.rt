@@ -133,7 +133,7 @@ pub fn receive(
 ) -> Received
     ensures { λ r. ⌜ left r (now (rec .exit)) (now (room .exit)) (now (out .exit)) ≡ delivered (now (payload .entry)) (now (rec .entry)) (now (room .entry)) (now (out .entry)) second (readAt (now (payload .entry)) at) ⌝ }
 {
-    match blocks::reading::read_block(payload, at) {
+    match reader::read_block(payload, at) {
         Read::Block {
             block,
             size: _,

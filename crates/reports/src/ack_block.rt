@@ -31,5 +31,5 @@ pub fn write_ack(report: AckInfo, room: &mut [u8]) -> Written
     if number != 0 {
         return Written::Refused { number };
     }
-    blocks::writing::write_block(block_of(report), &pairs[..len], room)
+    writer::write_block(block_of(report), &pairs[..len], room)
 }

@@ -26,7 +26,7 @@ fn read_outcome(read: Read) -> Outcome
 pub extern "C" fn strawhub_block_read(payload: &[u8], at: usize, out: &mut [u64; 12]) -> Outcome
     ensures { λ r. ⌜ (r ≡ readOutcome (readAt (now (payload .entry)) at)) × (now (out .exit) ≡ readNumbers (readAt (now (payload .entry)) at) (now (out .entry))) ⌝ }
 {
-    let read = blocks::reading::read_block(payload, at);
+    let read = reader::read_block(payload, at);
     block_numbers::put_block_numbers(read, out);
     read_outcome(read)
 }
