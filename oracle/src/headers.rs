@@ -200,7 +200,7 @@ fn written(random: &mut Random) -> Fields {
         token: when(long, random.next()),
         fragment: when(confirmed, random.next() & 15) as u8,
         count: when(confirmed, random.next() & 15) as u8,
-        immediate: when(data, random.next() & 1) as u8,
+        immediate: when(data, random.next() & 1) != 0,
     }
 }
 
@@ -223,7 +223,7 @@ pub fn compare_written(seed: u64, count: u64) -> (u64, u64) {
             Answer::Refused(number) => (number, [0; 11], Vec::new()),
         };
         let at = if matches!(f.kind, 0 | 1) { 32 } else { 0 };
-        let given = [f.kind, f.version, f.network, f.fragment, f.count, f.immediate].map(|b| b as u64);
+        let given = [f.kind, f.version, f.network, f.fragment, f.count, f.immediate as u8].map(|b| b as u64);
         let rest = [f.number as u64, f.destination, f.source, f.token, at as u64];
         let put = (number, std::array::from_fn(|i| if i < 6 { given[i] } else { rest[i - 6] }), plain[at..2 * at].to_vec());
         tally.compare(0, &read, &put, || format!("{f:?} key1 {} key2 {} packet {}", hex(&key1), hex(&key2), hex(&plain)));

@@ -1,6 +1,6 @@
 //! Blocks of a payload: read, written, walked, listed.
 
-use crate::{ffi, Message, Ranges, Refusal, RefusedAt};
+use crate::{ffi, Entry, Message, Ranges, Refusal, RefusedAt};
 use core::net::{IpAddr, SocketAddr};
 
 /// A block, its bytes a part of the payload that it was read from.
@@ -407,20 +407,6 @@ impl<'a> Iterator for Blocks<'a> {
 }
 
 impl core::iter::FusedIterator for Blocks<'_> {}
-
-/// One block of a listing.
-#[derive(Debug, Clone, Copy, PartialEq, Eq, Hash, Default)]
-#[repr(C)]
-pub struct Entry {
-    /// The place of its type byte.
-    pub place: usize,
-
-    /// Its type.
-    pub kind: u8,
-
-    /// Its size field as it stands.
-    pub size: u16,
-}
 
 /// Lists a payload's blocks, all of them good, and gives how many they are; the rest of the list
 /// stays. Refuses with 1 to 9, or where there are more than the list holds (10), at the first block

@@ -4,9 +4,22 @@
 //! of a slice that is borrowed for the call, mutably where the library may write; the library reads and
 //! writes inside those slices alone, keeps no pointer and always returns.
 
-use crate::Entry;
+/// One block of a listing.
+#[derive(Debug, Clone, Copy, PartialEq, Eq, Hash, Default)]
+#[repr(C)]
+pub struct Entry {
+    /// The place of its type byte.
+    pub place: usize,
+
+    /// Its type.
+    pub kind: u8,
+
+    /// Its size field as it stands.
+    pub size: u16,
+}
 
 /// 0 and a length, a count or a place; or a refusal and its place.
+#[derive(Debug, Clone, Copy, PartialEq, Eq)]
 #[repr(C)]
 pub struct Outcome {
     pub number: u64,
@@ -14,6 +27,7 @@ pub struct Outcome {
 }
 
 /// 0 and how many numbers an expansion wrote; or a refusal.
+#[derive(Debug, Clone, Copy, PartialEq, Eq)]
 #[repr(C)]
 pub struct Expanded {
     pub number: u32,
@@ -21,6 +35,7 @@ pub struct Expanded {
 }
 
 /// What came of a piece.
+#[derive(Debug, Clone, Copy, PartialEq, Eq)]
 #[repr(C)]
 pub struct Reply {
     pub number: u8,
@@ -30,7 +45,7 @@ pub struct Reply {
 }
 
 /// A header's fields as the library takes them; those that a type does not have are 0.
-#[derive(Default)]
+#[derive(Debug, Clone, Copy, Default)]
 pub struct Fields {
     pub kind: u8,
     pub destination: u64,

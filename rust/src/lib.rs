@@ -45,7 +45,8 @@ mod header;
 mod refusal;
 
 pub use ack::{expand, AckInfo, Ranges, RemoteAckManager};
-pub use block::{blocks, list_blocks, Block, Blocks, Entry};
+pub use block::{blocks, list_blocks, Block, Blocks};
+pub use ffi::Entry;
 pub use fragment::{Delivered, FragmentHandler, FragmentStorage, Message, MESSAGE, RECORD, ROOM, STORAGE};
 pub use header::{keystream, HeaderKind, HeaderReader, MessageType, ProtocolVersion};
 pub use refusal::{Refusal, RefusedAt};

@@ -7,8 +7,8 @@ use native.Mathlib.Omega.{arith}
 use lib.ListN.{length, take, replicate, length-map}
 use lib.Seq.{take-append-seam}
 use Rattle.wire.specs.Parts.{splice}
-use Rattle.acks.specs.declared.tracker.Tracker.{Tracker}
-use Rattle.acks.specs.declared.report.AckInfo.{AckInfo}
+use Rattle.acks.specs.declared.Tracker.{Tracker}
+use Rattle.acks.specs.declared.AckInfo.{AckInfo}
 use Rattle.acks.specs.Window.{falling, window, keep}
 use Rattle.acks.specs.Tracking.{mark}
 use Rattle.acks.specs.Runs.{runs, flags, named, whole, total}

@@ -9,7 +9,7 @@ use Rattle.blocks.specs.declared.Written.{Written}
 use Rattle.blocks.specs.Writing.{writing, roomAfter}
 use Rattle.acks.specs.Reporting.{pairBytes}
 use Rattle.acks.specs.AckBlocks.{ackBlock, ackWriting, ackRoom}
-use Rattle.acks.specs.declared.report.AckInfo.{AckInfo}
+use Rattle.acks.specs.declared.AckInfo.{AckInfo}
 
 pub handed : (r : AckInfo) (room ps after : List ℕ) (b : Block) (w : Written) → r .number ≡ 0 → b ≡ ackBlock r → ps ≡ pairBytes r →
     w ≡ writing b ps (length room) → after ≡ roomAfter b ps room → (w ≡ ackWriting r (length room)) × (after ≡ ackRoom r room)

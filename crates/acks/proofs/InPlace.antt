@@ -10,7 +10,7 @@ use Rattle.wire.specs.Parts.{part}
 use Rattle.wire.specs.Numbers.{little, littleAt, littleBytes}
 use Rattle.wire.proofs.Parts.{length-splice}
 use Rattle.wire.proofs.Numbers.{length-little}
-use Rattle.acks.specs.declared.tracker.Tracker.{Tracker}
+use Rattle.acks.specs.declared.Tracker.{Tracker}
 use Rattle.acks.specs.History.{Packets}
 use Rattle.acks.specs.Tracking.{fresh, clearUp, marksAfter, acceptOf, answerOf, registerOf, registerAll}
 use Rattle.acks.specs.Recorded.{short, trackerAt, bytesOf, recordAfter, recordAll}

@@ -12,7 +12,7 @@ use Rattle.wire.specs.Numbers.{Bytes, littleAt, littleBytes}
 use Rattle.wire.proofs.Parts.{part-all, part-left, part-right, part-within, part-add, part-after, splice-part, splice-then}
 use Rattle.wire.proofs.Numbers.{littleAt-again, little-back, length-little}
 use Rattle.wire.proofs.Lent.{lent-part}
-use Rattle.acks.specs.declared.tracker.Tracker.{Tracker}
+use Rattle.acks.specs.declared.Tracker.{Tracker}
 use Rattle.acks.specs.History.{answerTo}
 use Rattle.acks.specs.Tracking.{held, marksAfter, acceptOf, answerOf, registerOf}
 use Rattle.acks.specs.Recorded.{short, trackerAt, bytesOf, registerThere, recordAfter}

@@ -14,8 +14,8 @@ use Rattle.wire.specs.Numbers.{Bytes, littleAt}
 use Rattle.blocks.specs.declared.Written.the-variants as Wrote
 use Rattle.blocks.specs.Writing.{writing, roomAfter}
 use Rattle.blocks.proofs.Refused as Blocks
-use Rattle.acks.specs.declared.tracker.Tracker.{Tracker}
-use Rattle.acks.specs.declared.report.AckInfo.{AckInfo}
+use Rattle.acks.specs.declared.Tracker.{Tracker}
+use Rattle.acks.specs.declared.AckInfo.{AckInfo}
 use Rattle.acks.specs.History.{answerTo}
 use Rattle.acks.specs.Tracking.{mark, held, answerOf, registerOf}
 use Rattle.acks.specs.Reporting.{refusal, pairBytes, reportOf, ackInfo}

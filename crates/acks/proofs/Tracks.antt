@@ -9,7 +9,7 @@ use native.Mathlib.Nat.{eq-zero-or-pos}
 use lib.Dec.{eqb}
 use lib.ListN.{set, length, length-set, getD-replicate}
 use borrow.Author.Tests.{lt-leb, le-leb, le-ltb, lt-ltb, eq-eqb, ne-eqb, eqb-true, eqb-false}
-use Rattle.acks.specs.declared.tracker.Tracker.{Tracker}
+use Rattle.acks.specs.declared.Tracker.{Tracker}
 use Rattle.acks.specs.Window.{inWindow}
 use Rattle.acks.specs.History.{answerTo, highestOf, among, receive, noted, receivedAfter, received}
 use Rattle.acks.specs.Tracking.{mark, fresh, held, clearUp, marksAfter, acceptOf, answerOf, registerOf, registerAll}

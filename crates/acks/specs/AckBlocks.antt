@@ -9,7 +9,7 @@ use Rattle.blocks.specs.declared.Written.{Written}
 use Rattle.blocks.specs.declared.Written.the-variants as Wrote
 use Rattle.blocks.specs.Writing.{writing, roomAfter}
 use Rattle.acks.specs.Reporting.{pairBytes}
-use Rattle.acks.specs.declared.report.AckInfo.{AckInfo}
+use Rattle.acks.specs.declared.AckInfo.{AckInfo}
 
 -- its block: the pairs are the bytes handed over beside it
 unfoldable pub ackBlock : AckInfo → Block

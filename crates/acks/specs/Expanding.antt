@@ -6,7 +6,7 @@ use lib.Dec.{ltb, eqb}
 use lib.ListN.{length}
 use Rattle.wire.specs.Parts.{splice}
 use Rattle.acks.specs.Runs.{flags, named, whole, total}
-use Rattle.acks.specs.declared.expand.Expanded.{Expanded}
+use Rattle.acks.specs.declared.Expanded.{Expanded}
 
 -- the through number, count numbers below it, then each pair skips and names
 unfoldable pub numbers : ℕ → ℕ → List ℕ → List ℕ

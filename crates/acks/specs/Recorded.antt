@@ -8,8 +8,8 @@ use Rattle.wire.specs.Parts.{part, splice}
 use Rattle.wire.specs.Numbers.{littleAt, littleBytes}
 use Rattle.acks.specs.Tracking.{held, registerOf}
 use Rattle.acks.specs.Reporting.{refusal, ackInfo}
-use Rattle.acks.specs.declared.tracker.Tracker.{Tracker}
-use Rattle.acks.specs.declared.report.AckInfo.{AckInfo}
+use Rattle.acks.specs.declared.Tracker.{Tracker}
+use Rattle.acks.specs.declared.AckInfo.{AckInfo}
 
 -- fewer bytes than a record has
 unfoldable pub short : List ℕ → Bool

@@ -6,8 +6,8 @@ use lib.ListN.{replicate, length, take}
 use Rattle.acks.specs.Window.{falling}
 use Rattle.acks.specs.Tracking.{mark}
 use Rattle.acks.specs.Runs.{runs}
-use Rattle.acks.specs.declared.tracker.Tracker.{Tracker}
-use Rattle.acks.specs.declared.report.AckInfo.{AckInfo}
+use Rattle.acks.specs.declared.Tracker.{Tracker}
+use Rattle.acks.specs.declared.AckInfo.{AckInfo}
 
 -- what the marks say of k numbers below n, downward
 unfoldable pub view : List ℕ → ℕ → ℕ → List Bool

@@ -6,8 +6,8 @@ use lib.Dec.{eqb}
 use lib.ListN.{replicate, getD, set}
 use Rattle.acks.specs.Window.{inWindow}
 use Rattle.acks.specs.History.{answerTo}
-use Rattle.acks.specs.declared.tracker.Tracker.{Tracker}
-use Rattle.acks.specs.declared.tracker.Registered.{Registered}
+use Rattle.acks.specs.declared.Tracker.{Tracker}
+use Rattle.acks.specs.declared.Registered.{Registered}
 
 -- a tracker as it starts: 255 marks, all unset
 unfoldable pub fresh : Tracker

@@ -1,8 +1,38 @@
-// Acknowledgements: which packet numbers came, and what to tell the sender. The Rust's `ack.rs`.
-pub mod ack_block;
-pub mod expand;
-mod marks;
-pub mod recorded;
-pub mod report;
-mod runs;
-pub mod tracker;
+// Acknowledgements: which packet numbers came, and what to tell the sender. The Rust's `ack.rs`, as types and definitions; crates `tracker`, `reports` and `expand` have the calls.
+ghost use mathlib.Core.Path.{_≡_};
+ghost use Prim.Native.Nat.{min};
+
+// The highest number seen, and the marks of the 255 numbers that end there. The Rust's `RemoteAckManager`.
+pub struct Tracker {
+    pub highest: u32,
+    pub marks: [u8; 255],
+}
+
+// What a registration answers (0, 40, 42 or 43), and the tracker after it.
+pub struct Registered {
+    pub answer: u32,
+    pub tracker: Tracker,
+}
+
+// A report: 41 before any number, else 0 and what an Ack block says: the highest number, the count of received numbers directly below it, and len bytes of pairs.
+#[repr(C)]
+pub struct AckInfo {
+    pub number: u32,
+    pub through: u32,
+    pub count: u8,
+    pub len: usize,
+    pub pairs: [u8; 254],
+}
+
+// What an expansion answers: 44, 46, or 0 and how many numbers it named.
+#[repr(C)]
+pub struct Expanded {
+    pub number: u32,
+    pub count: usize,
+}
+
+pub fn shorter(a: usize, b: usize) -> usize
+    ensures { λ r. ⌜ r ≡ min a b ⌝ }
+{
+    if a < b { a } else { b }
+}

@@ -1,6 +1,6 @@
 // Lines that expand an acknowledgement.
 use crate::fields;
-use acks::report::AckInfo;
+use acks::AckInfo;
 ghost use mathlib.Core.Path.{_≡_};
 ghost use Prim.Native.Nat.{_≤_, _*_};
 ghost use lib.ListN.{length};
@@ -15,7 +15,7 @@ pub(crate) fn named_at(
 ) -> usize {
     let mut pairs = [0u8; 512];
     let n = fields::bytes(text, at, &mut pairs);
-    acks::expand::expand(through, count, &pairs[..n], list).count
+    expand::expand(through, count, &pairs[..n], list).count
 }
 
 // How many numbers a report names.
@@ -25,7 +25,7 @@ pub(crate) fn named_of(a: AckInfo, list: &mut [u32; 512]) -> usize {
     if 254 < len {
         return 0;
     }
-    acks::expand::expand(a.through, a.count, &pairs[..len], list).count
+    expand::expand(a.through, a.count, &pairs[..len], list).count
 }
 
 // Whether the first n numbers of a list are those of some bytes.
@@ -63,7 +63,7 @@ struct Filled {
 fn expands(through: u32, count: u8, pairs: &[u8], want: &[u8]) -> Filled {
     let mut list = sevens();
     let room = room_of(want.len());
-    let e = acks::expand::expand(through, count, pairs, &mut list[..room]);
+    let e = expand::expand(through, count, pairs, &mut list[..room]);
     let same = same_list(&list, want, room);
     Filled {
         number: e.number,

@@ -3,7 +3,7 @@ mod asked;
 mod expanded;
 mod fields;
 
-use acks::tracker::Tracker;
+use acks::Tracker;
 use libc::STDIN_FILENO;
 use libc::STDOUT_FILENO;
 ghost use Prim.Native.Nat.{_≤_};
@@ -34,8 +34,8 @@ fn start(n: u32, bytes: &mut [u8; 259]) -> Tracker {
 fn register(text: &[u8], at: usize, t: Tracker, bytes: &mut [u8; 259]) -> Turn {
     let n = fields::number(text, at);
     let want = fields::number(text, lines::after(text, at));
-    let r = acks::tracker::register(t, n);
-    let there = acks::recorded::register_in(bytes, n);
+    let r = tracker::register(t, n);
+    let there = tracker::recorded::register_in(bytes, n);
     let next = r.tracker;
     Turn {
         ok: (r.answer == want) & (there == want),
@@ -51,7 +51,7 @@ fn line(text: &[u8], at: usize, t: Tracker, bytes: &mut [u8; 259]) -> Turn {
         *bytes = empty();
         return Turn {
             ok: true,
-            tracker: acks::tracker::new(),
+            tracker: tracker::new(),
         };
     }
     if kind == b's' {
@@ -92,7 +92,7 @@ fn run(text: &[u8]) {
     let mut at = 0;
     let mut all: u64 = 0;
     let mut same: u64 = 0;
-    let mut tracker = acks::tracker::new();
+    let mut tracker = tracker::new();
     let mut bytes = empty();
     while at < text.len() {
         let turn = line(text, at, tracker, &mut bytes);

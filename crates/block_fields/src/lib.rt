@@ -173,5 +173,5 @@ pub fn write_by(kind: u8, f: &[u64; 8], bytes: &[u8], room: &mut [u8]) -> Writte
         return Written::Refused { number: 32 };
     }
     let block = block_by(kind, f);
-    blocks::writing::write_block(block, bytes, room)
+    writer::write_block(block, bytes, room)
 }

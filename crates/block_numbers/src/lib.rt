@@ -8,7 +8,7 @@ ghost use Rattle.numbers.specs.BlockNumbers.{few, blockNumbers, readNumbers};
 use blocks::Block;
 use blocks::Part;
 use blocks::Read;
-use blocks::reading::part_of;
+use reader::part_of;
 
 // A block of three fields at most.
 fn row(kind: u64, size: u64, p: Part, a: u64, b: u64, c: u64) -> [u64; 12]

@@ -1,10 +1,4 @@
-// SSU2 blocks: their bodies as values, and reading and writing them.
-pub mod extents;
-mod fields;
-pub mod reading;
-pub mod sound;
-pub mod writing;
-
+// SSU2 blocks: their bodies as values, and what came of reading and writing them. No code: the definitions and their laws, for the crates that read and write.
 // Bytes of the payload: where they start, and how many they are.
 pub struct Part {
     pub start: usize,

@@ -105,7 +105,7 @@ fn deliver(
             bytes,
         } => {
             let piece = shown(payload, bytes.start, bytes.len);
-            let r = reassembly::first_fragment(rec, room, out, id, kind, expiration, second, piece);
+            let r = store::first_fragment(rec, room, out, id, kind, expiration, second, piece);
             rebuilt_by(r, id)
         }
         Block::FollowOnFragment {
@@ -115,7 +115,7 @@ fn deliver(
             bytes,
         } => {
             let piece = shown(payload, bytes.start, bytes.len);
-            let r = reassembly::follow_on_fragment(rec, room, out, id, number, last, second, piece);
+            let r = store::follow_on_fragment(rec, room, out, id, number, last, second, piece);
             rebuilt_by(r, id)
         }
         _ => nothing(0, 0),
@@ -133,7 +133,7 @@ pub fn receive(
 ) -> Received
     ensures { λ r. ⌜ left r (now (rec .exit)) (now (room .exit)) (now (out .exit)) ≡ delivered (now (payload .entry)) (now (rec .entry)) (now (room .entry)) (now (out .entry)) second (readAt (now (payload .entry)) at) ⌝ }
 {
-    match blocks::reading::read_block(payload, at) {
+    match reader::read_block(payload, at) {
         Read::Block {
             block,
             size: _,

@@ -9,15 +9,15 @@ use Rattle.messages.specs.Delivery.{nothing}
 use Rattle.listing.specs.Listing.{no, entry, filled}
 use Rattle.acks.specs.Recorded.{short}
 use Rattle.acks.specs.Reporting.{refusal, silent}
-use Rattle.strawhub.specs.Listings.{outcome}
+use Rattle.outcomes.specs.Listings.{outcome}
 use Rattle.numbers.specs.Headers.{answerNumbers}
 use Rattle.numbers.specs.BlockNumbers.{readNumbers}
 use Rattle.numbers.specs.BlockFields.{fits, writingBy, roomBy}
 use Rattle.numbers.proofs.Refused as Numbers
-use Rattle.strawhub.specs.Outcomes.{written}
-use Rattle.strawhub.specs.Trackers.{newAnswer, newRecord, reportNumbers}
-use Rattle.strawhub.specs.Deliveries.{deliveryOutcome, deliveryNumbers}
-use Rattle.strawhub.proofs.Refused as Calls
+use Rattle.outcomes.specs.Outcomes.{written}
+use Rattle.outcomes.specs.Trackers.{newAnswer, newRecord, reportNumbers}
+use Rattle.outcomes.specs.Deliveries.{deliveryOutcome, deliveryNumbers}
+use Rattle.outcomes.proofs.Refused as Calls
 use Rattle.promises.specs.Demand1.{Refuses, StoreRefuses}
 use Rattle.promises.specs.Demand1Calls.{Demand1Calls}
 

@@ -28,7 +28,7 @@ use Rattle.acks.specs.AckBlocks.{ackWriting, ackRoom}
 use Rattle.acks.specs.Runs.{whole, total}
 use Rattle.acks.specs.Expanding.{expandAnswer, expandOf, listAfter}
 use Rattle.acks.proofs.Cases.{case-j}
-use Rattle.reassembly.specs.declared.judge.Label.{Label}
+use Rattle.reassembly.specs.declared.Label.{Label}
 use Rattle.reassembly.specs.Calls.{after, bare, isShort, badSize, offNumber, firstCall, followOnCall, renewal, renewed}
 use Rattle.messages.specs.Delivery.{left, nothing, delivered}
 use Rattle.promises.specs.Demand1.{Refuses, StoreRefuses}

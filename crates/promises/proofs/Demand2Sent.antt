@@ -16,7 +16,7 @@ use Rattle.acks.specs.History.{Packets, among, received, highestSeen, newest}
 use Rattle.acks.specs.Reporting.{pairBytes}
 use Rattle.acks.specs.Expanding.{expandOf, listAfter}
 use Rattle.acks.specs.AckBlocks.{ackBlock, ackWriting, ackRoom}
-use Rattle.acks.specs.declared.report.AckInfo.{AckInfo}
+use Rattle.acks.specs.declared.AckInfo.{AckInfo}
 use Rattle.acks.proofs.Faithful.{Faithful, expands}
 use Rattle.acks.proofs.InPlace.{in-place-small}
 use Rattle.promises.specs.Acks.{reportAfter}

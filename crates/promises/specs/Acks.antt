@@ -9,8 +9,8 @@ use Rattle.acks.specs.History.{Packets, answerTo, among, received, highestSeen,
 use Rattle.acks.specs.Tracking.{fresh, held, registerOf, registerAll}
 use Rattle.acks.specs.Reporting.{ackInfo}
 use Rattle.acks.specs.Recorded.{trackerAt, registerThere, recordAll, reportThere}
-use Rattle.acks.specs.declared.tracker.Tracker.{Tracker}
-use Rattle.acks.specs.declared.report.AckInfo.{AckInfo}
+use Rattle.acks.specs.declared.Tracker.{Tracker}
+use Rattle.acks.specs.declared.AckInfo.{AckInfo}
 
 -- the tracker after a history of calls
 abbrev pub after : List ℕ → Tracker

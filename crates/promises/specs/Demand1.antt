@@ -26,14 +26,14 @@ use Rattle.blocks.specs.Reading.{readAt}
 use Rattle.listing.specs.declared.Entry.{Entry}
 use Rattle.listing.specs.Listing.{no, listing, filled}
 use Rattle.blocks.specs.Writing.{writing, roomAfter}
-use Rattle.acks.specs.declared.tracker.Tracker.{Tracker}
-use Rattle.acks.specs.declared.report.AckInfo.{AckInfo}
+use Rattle.acks.specs.declared.Tracker.{Tracker}
+use Rattle.acks.specs.declared.AckInfo.{AckInfo}
 use Rattle.acks.specs.Tracking.{registerOf}
 use Rattle.acks.specs.Reporting.{ackInfo}
 use Rattle.acks.specs.Recorded.{registerThere, recordAfter, duplicateThere, reportThere}
 use Rattle.acks.specs.AckBlocks.{ackWriting, ackRoom}
 use Rattle.acks.specs.Expanding.{expandOf, listAfter}
-use Rattle.reassembly.specs.declared.judge.Label.{Label}
+use Rattle.reassembly.specs.declared.Label.{Label}
 use Rattle.reassembly.specs.Calls.{After, after, firstCall, followOnCall, renewal, renewed}
 use Rattle.messages.specs.Delivery.{left, delivered}
 

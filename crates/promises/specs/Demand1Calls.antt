@@ -8,16 +8,16 @@ use Rattle.header.specs.declared.Answer.{Answer}
 use Rattle.blocks.specs.declared.Read.{Read}
 use Rattle.listing.specs.declared.Entry.{Entry}
 use Rattle.listing.specs.Listing.{Listing, answerOf, filled}
-use Rattle.acks.specs.declared.report.AckInfo.{AckInfo}
+use Rattle.acks.specs.declared.AckInfo.{AckInfo}
 use Rattle.acks.specs.AckBlocks.{ackWriting, ackRoom}
 use Rattle.messages.specs.declared.Received.{Received}
-use Rattle.strawhub.specs.Outcomes.{written, readOutcome}
-use Rattle.strawhub.specs.Listings.{outcome}
+use Rattle.outcomes.specs.Outcomes.{written, readOutcome}
+use Rattle.outcomes.specs.Listings.{outcome}
 use Rattle.numbers.specs.Headers.{answerNumber, answerNumbers}
 use Rattle.numbers.specs.BlockNumbers.{readNumbers}
 use Rattle.numbers.specs.BlockFields.{writingBy, roomBy}
-use Rattle.strawhub.specs.Trackers.{newAnswer, newRecord, reportNumbers, reportPairs}
-use Rattle.strawhub.specs.Deliveries.{deliveryOutcome, deliveryNumbers}
+use Rattle.outcomes.specs.Trackers.{newAnswer, newRecord, reportNumbers, reportPairs}
+use Rattle.outcomes.specs.Deliveries.{deliveryOutcome, deliveryNumbers}
 use Rattle.promises.specs.Demand1.{Refuses, StoreRefuses}
 
 pub record Demand1Calls : Type 0 where

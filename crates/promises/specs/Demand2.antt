@@ -12,7 +12,7 @@ use Rattle.acks.specs.History.{Packets, received, highestSeen, newest}
 use Rattle.acks.specs.Reporting.{silent, pairBytes}
 use Rattle.acks.specs.Expanding.{expandOf, listAfter}
 use Rattle.acks.specs.AckBlocks.{ackWriting, ackRoom}
-use Rattle.acks.specs.declared.report.AckInfo.{AckInfo}
+use Rattle.acks.specs.declared.AckInfo.{AckInfo}
 use Rattle.promises.specs.Acks.{reportAfter}
 
 -- a report, expanded into a lent list, is exactly some numbers: they stand in front, their count is returned, the rest of the list stays

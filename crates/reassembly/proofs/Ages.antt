@@ -5,7 +5,7 @@ use Prim.Native.Nat.{ℕ, _+_, _-_, _≤_, _<_}
 use native.Mathlib.Omega.{arith}
 use lib.Dec.{eqb, leb}
 use borrow.Author.Tests.{lt-leb, le-leb, leb-true, leb-false}
-use Rattle.reassembly.specs.declared.record.Head.{Head}
+use Rattle.reassembly.specs.declared.Head.{Head}
 use Rattle.reassembly.specs.Judge.{isOld}
 
 and-false : (b : Bool) → (b && false) ≡ false

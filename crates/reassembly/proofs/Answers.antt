@@ -9,7 +9,7 @@ use lib.Dec.{eqb, ltb}
 use lib.ListN.{length, getD, set, drop}
 use borrow.Author.Tests.{ltb-false}
 use Rattle.wire.specs.Parts.{same}
-use Rattle.reassembly.specs.declared.record.Head.{Head}
+use Rattle.reassembly.specs.declared.Head.{Head}
 use Rattle.reassembly.specs.Store.{Piece, first, follow, idOf, numberOf, finalOf, bytesOf, isHeld, someHeld, total, plus, badLength, badNumber, repeats, clashes, tooMuch}
 use Rattle.reassembly.specs.Record.{pieceAt}
 use Rattle.reassembly.specs.Judge.{pick, sameLabel, misfits, grownBy}

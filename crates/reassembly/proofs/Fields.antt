@@ -4,8 +4,8 @@ use mathlib.Core.List.{List, [], _∷_, _++_}
 use Prim.Native.Nat.{ℕ, _+_, _/_, _%_, _<_}
 use native.Mathlib.Omega.{arith}
 use Rattle.wire.proofs.Numbers.{little-two, little-four, little-eight}
-use Rattle.reassembly.specs.declared.record.Head.{Head}
-use Rattle.reassembly.specs.declared.record.Entry.{Entry}
+use Rattle.reassembly.specs.declared.Head.{Head}
+use Rattle.reassembly.specs.declared.Entry.{Entry}
 use Rattle.reassembly.specs.Record.{headBytes, entryBytes}
 
 -- what the fields of a head hold

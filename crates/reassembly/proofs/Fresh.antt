@@ -9,8 +9,8 @@ use lib.Dec.{eqb, ltb}
 use lib.ListN.{length, getD, replicate}
 use borrow.Author.Tests.{ne-eqb, le-ltb, ltb-true}
 use Rattle.wire.specs.Parts.{part}
-use Rattle.reassembly.specs.declared.record.Entry.{Entry}
-use Rattle.reassembly.specs.declared.judge.Label.{Label}
+use Rattle.reassembly.specs.declared.Entry.{Entry}
+use Rattle.reassembly.specs.declared.Label.{Label}
 use Rattle.reassembly.specs.Store.{Piece, idOf, Message, isHeld, total, messageOr}
 use Rattle.reassembly.specs.Record.{cleared, roomOf, pieceAt}
 use Rattle.reassembly.specs.Judge.{pick, misfits, moreOf, grownBy, isWhole, newHead}

@@ -12,9 +12,9 @@ use lib.Seq.{getD-set-same, getD-set-other}
 use borrow.Author.Tests.{lt-ltb, ltb-true, ltb-false}
 use Rattle.wire.specs.Parts.{part}
 use Rattle.wire.proofs.Parts.{part-same, part-before, length-part}
-use Rattle.reassembly.specs.declared.record.Head.{Head}
-use Rattle.reassembly.specs.declared.record.Entry.{Entry}
-use Rattle.reassembly.specs.declared.judge.Label.{Label}
+use Rattle.reassembly.specs.declared.Head.{Head}
+use Rattle.reassembly.specs.declared.Entry.{Entry}
+use Rattle.reassembly.specs.declared.Label.{Label}
 use Rattle.reassembly.specs.Store.{isHeld, allHeld, total, complete}
 use Rattle.reassembly.specs.Record.{headAt, entryAt, withEntry, roomOf, pieceAt}
 use Rattle.reassembly.specs.Judge.{pick, misfits, moreOf, grownBy, isWhole}

@@ -10,8 +10,8 @@ use native.Mathlib.Decide.{ℕ-discrete}
 use lib.Dec.{eqb}
 use lib.ListN.{length, set}
 use Rattle.wire.specs.Parts.{part}
-use Rattle.reassembly.specs.declared.record.Head.{Head}
-use Rattle.reassembly.specs.declared.record.Entry.{Entry}
+use Rattle.reassembly.specs.declared.Head.{Head}
+use Rattle.reassembly.specs.declared.Entry.{Entry}
 use Rattle.reassembly.specs.Store.{Message}
 use Rattle.reassembly.specs.Record.{headAt, withHead, entryAt, withEntry, cleared, roomOf, pieceAt}
 use Rattle.reassembly.specs.Slots.{isFree}

@@ -10,8 +10,8 @@ use native.Mathlib.Numerals.{add-one}
 use lib.Dec.{eqb, ltb}
 use lib.ListN.{length, getD, set, take}
 use borrow.Author.Tests.{ne-eqb, lt-ltb, le-ltb, ltb-false, lt-leb}
-use Rattle.reassembly.specs.declared.record.Head.{Head}
-use Rattle.reassembly.specs.declared.judge.Label.{Label}
+use Rattle.reassembly.specs.declared.Head.{Head}
+use Rattle.reassembly.specs.declared.Label.{Label}
 use Rattle.reassembly.specs.Store.{Piece, bytesOf, Message, Store, Answer, isHeld, joined, plus, badLength, badNumber, complete, wholeOf, tooShort, refused, answer}
 use Rattle.reassembly.specs.Record.{headAt, withHead, pieceAt}
 use Rattle.reassembly.specs.Slots.{isFree}

@@ -8,8 +8,8 @@ use lib.Dec.{eqb, ltb, leb}
 use lib.ListN.{length, replicate}
 use types.Run.{OneOf}
 use Rattle.wire.specs.Parts.{splice, same}
-use Rattle.reassembly.specs.declared.record.Head.{Head}
-use Rattle.reassembly.specs.declared.judge.Label.{Label}
+use Rattle.reassembly.specs.declared.Head.{Head}
+use Rattle.reassembly.specs.declared.Label.{Label}
 use Rattle.reassembly.specs.Record.{headAt, entryAt, pieceAt}
 use Rattle.reassembly.specs.Slots.{firstFrom, isOpenAs, isFree}
 use Rattle.reassembly.specs.Judge.{sameLabel, again, misfits, grownBy, isWhole}

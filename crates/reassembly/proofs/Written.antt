@@ -13,8 +13,8 @@ use Rattle.wire.specs.Parts.{part, splice}
 use Rattle.wire.specs.Numbers.{little, littleAt}
 use Rattle.wire.proofs.Parts.{part-same, part-other, part-within, part-inside, length-splice, length-part, getD-part}
 use Rattle.wire.proofs.Numbers.{little-append, length-little}
-use Rattle.reassembly.specs.declared.record.Head.{Head}
-use Rattle.reassembly.specs.declared.record.Entry.{Entry}
+use Rattle.reassembly.specs.declared.Head.{Head}
+use Rattle.reassembly.specs.declared.Entry.{Entry}
 use Rattle.reassembly.specs.Record.{headOf, headBytes, entryOf, entryBytes, headAt, withHead, entryAt, withEntry, cleared, roomOf}
 use Rattle.reassembly.specs.Calls.{keptRoom}
 use Rattle.reassembly.proofs.Fields.{HeadFits, head-written, entry-written}

@@ -5,7 +5,7 @@ use mathlib.Core.List.{List}
 use Prim.Native.Nat.{ℕ, _+_, _*_, _≤_, _<_}
 use lib.ListN.{length}
 use Rattle.wire.specs.Parts.{splice}
-use Rattle.reassembly.specs.declared.judge.Label.{Label}
+use Rattle.reassembly.specs.declared.Label.{Label}
 use Rattle.reassembly.specs.Calls.{After, after, firstCall, followOnCall}
 
 -- what is written to the room lies in the own 65,535 bytes of one of the 16 slots

@@ -1,4 +1,4 @@
--- What the contracts of `reassembly` cite.
+-- What the contracts of the store and of the crates below it cite.
 pub mod Store
 pub mod Record
 pub mod Slots

@@ -4,8 +4,8 @@ use Prim.Native.Nat.{ℕ, _+_, _*_}
 use lib.ListN.{getD, replicate}
 use Rattle.wire.specs.Parts.{part, splice}
 use Rattle.wire.specs.Numbers.{littleAt, littleBytes}
-use Rattle.reassembly.specs.declared.record.Head.{Head}
-use Rattle.reassembly.specs.declared.record.Entry.{Entry}
+use Rattle.reassembly.specs.declared.Head.{Head}
+use Rattle.reassembly.specs.declared.Entry.{Entry}
 
 -- the head that 24 bytes are, and the bytes of a head
 unfoldable pub headOf : List ℕ → Head

@@ -134,7 +134,7 @@ fn sum_of(out: &[u8], n: usize) -> u64
 fn call(rec: &mut [u8], room: &mut [u8], out: &mut [u8], l: Line, piece: &[u8]) -> Reply {
     let a = (l.a % 256) as u8;
     if l.call == 1 {
-        return reassembly::first_fragment(
+        return store::first_fragment(
             rec,
             room,
             out,
@@ -146,18 +146,18 @@ fn call(rec: &mut [u8], room: &mut [u8], out: &mut [u8], l: Line, piece: &[u8]) 
         );
     }
     if l.call == 2 {
-        return reassembly::follow_on_fragment(rec, room, out, l.id, a, l.b == 1, l.second, piece);
+        return store::follow_on_fragment(rec, room, out, l.id, a, l.b == 1, l.second, piece);
     }
     if l.call == 3 {
         return Reply {
-            number: reassembly::sweep(rec, l.second),
+            number: store::sweep(rec, l.second),
             kind: 0,
             expires: 0,
             length: 0,
         };
     }
     Reply {
-        number: reassembly::new(rec),
+        number: store::new(rec),
         kind: 0,
         expires: 0,
         length: 0,

@@ -1,0 +1,86 @@
+use mathlib.Core.Path.{_≡_, ap, _∙_}
+use Prim.Native.Nat.{ℕ, _+_, _-_, _*_}
+use native.Mathlib.Omega.{arith}
+use lib.ListN.{take, drop}
+use Rattle.wire.specs.Parts.{part}
+use Rattle.reassembly.specs.Record.{roomOf, pieceAt}
+use Rattle.reassembly.proofs.Joined.{piece-cut}
+use borrow.Author.Needs.{needs}
+use Rattle.slots.proofs.pieces.piece.Statement.{statement}
+use Rattle.slots.proofs.pieces.piece.Tie as tie
+
+load-entry-requires : tie.Need-load-entry-requires
+load-entry-requires c κs = search needs
+
+wide16-requires : tie.Need-wide16-requires
+wide16-requires c κs = search needs
+
+wide16-requires-2 : tie.Need-wide16-requires-2
+wide16-requires-2 c κs = search needs
+
+cut-requires : tie.Need-cut-requires
+cut-requires c κs = search needs
+
+mul-a : tie.Need-mul-a
+mul-a c = search needs
+
+add-b : tie.Need-add-b
+add-b c = search needs
+
+add-q : tie.Need-add-q
+add-q c = search needs
+
+sub-s : tie.Need-sub-s
+sub-s c = search needs
+
+part-s-start : tie.Need-part-s-start
+part-s-start c = search needs
+
+part-s-end : tie.Need-part-s-end
+part-s-end c = search needs
+
+sub-result : tie.Need-sub-result
+sub-result c = search needs
+
+part-result-start : tie.Need-part-result-start
+part-result-start c = search needs
+
+part-result-end : tie.Need-part-result-end
+part-result-end c = search needs
+
+returns : tie.Need-returns
+unfolding part roomOf pieceAt
+returns c =
+    let a = c .before .before .before .before .before .before .before .before .args in
+    let p = c .before .before .before .before .wide16 .result in
+    let n = c .before .before .before .wide162 .result in
+    let r = c .before .before .cut .result in
+    let b : ℕ = a .i * 65535 in
+    let e₁ : p + r - p ≡ r = omega arith in
+    let e₂ : b + 65535 - b ≡ 65535 = omega arith in
+    let q : part (roomOf (a .room .now) (a .i)) p r ≡ part (roomOf (a .room .now) (a .i)) p n =
+    piece-cut (a .room .now) (a .i) p n r (omega arith) (omega arith) (omega arith) (c .before .before .cut .ensures)
+    in
+    ap (λ (z : ℕ). take z (drop p (take (b + 65535 - b) (drop b (a .room .now))))) e₁
+    ∙ ap (λ (z : ℕ). take r (drop p (take z (drop b (a .room .now))))) e₂
+    ∙ q
+    ∙ cc
+
+pub piece-spec : {M : Type 1} → statement M
+piece-spec =
+    tie.close
+    (tie.spec
+    load-entry-requires
+    wide16-requires
+    wide16-requires-2
+    cut-requires
+    mul-a
+    add-b
+    add-q
+    sub-s
+    part-s-start
+    part-s-end
+    sub-result
+    part-result-start
+    part-result-end
+    returns)

@@ -1,0 +1,59 @@
+use mathlib.Core.Path.{_≡_, ap, _∙_}
+use Prim.Native.Nat.{ℕ, _+_, _-_, _*_}
+use native.Mathlib.Omega.{arith}
+use lib.ListN.{take, drop}
+use Rattle.wire.specs.Parts.{part}
+use Rattle.reassembly.specs.Record.{entryAt, entryOf}
+use borrow.Author.Needs.{needs}
+use Rattle.slots.proofs.record.load_entry.Statement.{statement}
+use Rattle.slots.proofs.record.load_entry.Tie as tie
+
+mul-a : tie.Need-mul-a
+mul-a c = search needs
+
+add-a : tie.Need-add-a
+add-a c = search needs
+
+mul-a-2 : tie.Need-mul-a-2
+mul-a-2 c = search needs
+
+add-a-2 : tie.Need-add-a-2
+add-a-2 c = search needs
+
+add-e : tie.Need-add-e
+add-e c = search needs
+
+sub-entry-of : tie.Need-sub-entry-of
+sub-entry-of c = search needs
+
+part-entry-of-start : tie.Need-part-entry-of-start
+part-entry-of-start c = search needs
+
+part-entry-of-end : tie.Need-part-entry-of-end
+part-entry-of-end c = search needs
+
+entry-of-requires : tie.Need-entry-of-requires
+entry-of-requires c κs = search needs
+
+returns : tie.Need-returns
+unfolding entryAt part
+returns c =
+    let a = c .before .before .before .args in
+    let p : ℕ = 384 + a .i * 512 + a .k * 4 in
+    let e : p + 4 - p ≡ 4 = omega arith in
+    c .entry-of .ensures ∙ ap (λ (z : ℕ). entryOf (take z (drop p (a .rec .now)))) e
+
+pub load-entry-spec : {M : Type 1} → statement M
+load-entry-spec =
+    tie.close
+    (tie.spec
+    mul-a
+    add-a
+    mul-a-2
+    add-a-2
+    add-e
+    sub-entry-of
+    part-entry-of-start
+    part-entry-of-end
+    entry-of-requires
+    returns)

@@ -1,0 +1,128 @@
+// The store's record in lent bytes: 16 heads of 24 bytes, then 16 tables of 128 entries of 4 bytes. All zero is the empty store.
+use reassembly::Entry;
+use reassembly::Head;
+ghost use mathlib.Core.Path.{_≡_};
+ghost use Prim.Native.Nat.{_+_, _*_, _<_, _≤_};
+ghost use lib.ListN.{length, replicate};
+ghost use Rattle.wire.specs.Parts.{splice};
+ghost use Rattle.reassembly.specs.Record.{headOf, headBytes, entryOf, entryBytes, headAt, withHead, entryAt, withEntry, cleared};
+
+fn head_of(b: &[u8]) -> Head
+    requires { ⌜ length (now b) ≡ 24 ⌝ }
+    ensures { λ r. ⌜ r ≡ headOf (now (b .entry)) ⌝ }
+{
+    Head {
+        id: wire::le_u32(b, 0),
+        opened: wire::le_u64(b, 4),
+        expires: wire::le_u32(b, 12),
+        total: wire::le_u16(b, 16),
+        count: b[18],
+        last: b[19],
+        top: b[20],
+        kind: b[21],
+    }
+}
+
+fn head_bytes(h: Head) -> [u8; 24]
+    ensures { λ r. ⌜ r ≡ headBytes h ⌝ }
+{
+    let a = (h.opened / 4294967296) as u32;
+    let b = (h.opened % 4294967296) as u32;
+    [
+        (h.id % 256) as u8,
+        (h.id / 256 % 256) as u8,
+        (h.id / 65536 % 256) as u8,
+        (h.id / 16777216) as u8,
+        (b % 256) as u8,
+        (b / 256 % 256) as u8,
+        (b / 65536 % 256) as u8,
+        (b / 16777216) as u8,
+        (a % 256) as u8,
+        (a / 256 % 256) as u8,
+        (a / 65536 % 256) as u8,
+        (a / 16777216) as u8,
+        (h.expires % 256) as u8,
+        (h.expires / 256 % 256) as u8,
+        (h.expires / 65536 % 256) as u8,
+        (h.expires / 16777216) as u8,
+        (h.total % 256) as u8,
+        (h.total / 256) as u8,
+        h.count,
+        h.last,
+        h.top,
+        h.kind,
+        0,
+        0,
+    ]
+}
+
+// The head of slot i.
+pub fn load_head(rec: &[u8], i: usize) -> Head
+    requires { ⌜ (8576 ≤ length (now rec)) × (i < 16) ⌝ }
+    ensures { λ r. ⌜ r ≡ headAt (now (rec .entry)) i ⌝ }
+{
+    let a = i * 24;
+    let e = a + 24;
+    head_of(&rec[a..e])
+}
+
+pub fn save_head(rec: &mut [u8], i: usize, h: Head)
+    requires { ⌜ (8576 ≤ length (now rec)) × (i < 16) ⌝ }
+    ensures { λ _. ⌜ now (rec .exit) ≡ withHead (now (rec .entry)) i h ⌝ }
+{
+    let v = head_bytes(h);
+    wire::copy_to(rec, i * 24, &v);
+}
+
+fn entry_of(b: &[u8]) -> Entry
+    requires { ⌜ length (now b) ≡ 4 ⌝ }
+    ensures { λ r. ⌜ r ≡ entryOf (now (b .entry)) ⌝ }
+{
+    Entry {
+        place: wire::le_u16(b, 0),
+        len: wire::le_u16(b, 2),
+    }
+}
+
+// The entry of number k in slot i.
+pub fn load_entry(rec: &[u8], i: usize, k: usize) -> Entry
+    requires { ⌜ (8576 ≤ length (now rec)) × (i < 16) × (k < 128) ⌝ }
+    ensures { λ r. ⌜ r ≡ entryAt (now (rec .entry)) i k ⌝ }
+{
+    let a = 384 + i * 512 + k * 4;
+    let e = a + 4;
+    entry_of(&rec[a..e])
+}
+
+pub fn save_entry(rec: &mut [u8], i: usize, k: usize, e: Entry)
+    requires { ⌜ (8576 ≤ length (now rec)) × (i < 16) × (k < 128) ⌝ }
+    ensures { λ _. ⌜ now (rec .exit) ≡ withEntry (now (rec .entry)) i k e ⌝ }
+{
+    let v = [
+        (e.place % 256) as u8,
+        (e.place / 256) as u8,
+        (e.len % 256) as u8,
+        (e.len / 256) as u8,
+    ];
+    wire::copy_to(rec, 384 + i * 512 + k * 4, &v);
+}
+
+// n zeros from a place on; every other byte stays.
+pub fn clear(b: &mut [u8], at: usize, n: usize)
+    requires { ⌜ at + n ≤ length (now b) ⌝ }
+    ensures { λ _. ⌜ now (b .exit) ≡ splice (now (b .entry)) at (replicate n 0) ⌝ }
+{
+    let mut i = 0;
+    while i < n {
+        b[at + i] = 0;
+        i += 1;
+    }
+}
+
+// No number of slot i is held.
+pub fn clear_entries(rec: &mut [u8], i: usize)
+    requires { ⌜ (8576 ≤ length (now rec)) × (i < 16) ⌝ }
+    ensures { λ _. ⌜ now (rec .exit) ≡ cleared (now (rec .entry)) i ⌝ }
+{
+    clear(rec, 384 + i * 512, 512);
+}

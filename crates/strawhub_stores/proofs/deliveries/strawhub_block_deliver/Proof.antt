@@ -1,0 +1,30 @@
+use Rattle.outcomes.specs.Deliveries.{deliveredAt}
+use Rattle.outcomes.proofs.DeliveryLaws.{told-of}
+use borrow.Author.Needs.{needs}
+use Rattle.strawhub_stores.proofs.deliveries.strawhub_block_deliver.Statement.{statement}
+use Rattle.strawhub_stores.proofs.deliveries.strawhub_block_deliver.Tie as tie
+
+receive-requires : tie.Need-receive-requires
+receive-requires c κs = search needs
+
+tell-requires : tie.Need-tell-requires
+tell-requires c κs = search needs
+
+same-length : tie.Need-same-length
+same-length c = search needs
+
+same-length-2 : tie.Need-same-length-2
+same-length-2 c = search needs
+
+same-length-3 : tie.Need-same-length-3
+same-length-3 c = search needs
+
+returns : tie.Need-returns
+returns c =
+    let a = c .before .before .before .before .before .before .before .before .before .before .before .before .before .before .before .before .args in
+    told-of (c .before .before .before .before .before .before .before .before .receive .result) (c .before .before .before .before .before .before .before .before .receive .last .1 .1 .0) (c .before .before .before .before .before .before .before .before .receive .last .1 .1 .1 .0) (c .before .before .before .before .before .before .before .before .receive .last .1 .1 .1 .1 .0) (a .told .now) (c .tell .last .1 .0) (c .tell .result) (deliveredAt (a .payload .now) (a .at) (a .rec .now) (a .room .now) (a .out .now) (a .second)) (c .before .before .before .before .before .before .before .before .receive .ensures) (c .tell .ensures .0) (c .tell .ensures .1)
+
+pub strawhub-block-deliver-spec : {M : Type 1} → statement M
+strawhub-block-deliver-spec =
+    tie.close
+    (tie.spec receive-requires tell-requires same-length same-length-2 same-length-3 returns)

@@ -1,0 +1,46 @@
+// What a block delivers, by numbers.
+ghost use mathlib.Core.Path.{_≡_};
+ghost use Rattle.outcomes.specs.Deliveries.{deliveryOutcome, deliveryNumbers, deliveredAt};
+use messages::Received;
+use outcomes::Outcome;
+
+// What was received put into the lent numbers; refused, they stay.
+fn tell(r: Received, told: &mut [u64; 6]) -> Outcome
+    ensures { λ o. ⌜ (o ≡ deliveryOutcome r) × (now (told .exit) ≡ deliveryNumbers r (now (told .entry))) ⌝ }
+{
+    if (r.number != 0) & (r.number != 60) {
+        return Outcome {
+            number: r.number as u64,
+            value: r.start as u64,
+        };
+    }
+    *told = [
+        r.from as u64,
+        r.kind as u64,
+        r.id as u64,
+        r.expires as u64,
+        r.start as u64,
+        r.length as u64,
+    ];
+    Outcome {
+        number: r.number as u64,
+        value: 0,
+    }
+}
+
+// What the block at a place delivers: 0 and 60 with the message in told; or the block's refusal and place, or the store's refusal, and then nothing changes.
+#[no_mangle]
+pub extern "C" fn strawhub_block_deliver(
+    payload: &[u8],
+    at: usize,
+    rec: &mut [u8],
+    room: &mut [u8],
+    out: &mut [u8],
+    second: u64,
+    told: &mut [u64; 6],
+) -> Outcome
+    ensures { λ r. ⌜ (r ≡ deliveryOutcome ((deliveredAt (now (payload .entry)) at (now (rec .entry)) (now (room .entry)) (now (out .entry)) second) .received)) × (now (rec .exit) ≡ (deliveredAt (now (payload .entry)) at (now (rec .entry)) (now (room .entry)) (now (out .entry)) second) .rec) × (now (room .exit) ≡ (deliveredAt (now (payload .entry)) at (now (rec .entry)) (now (room .entry)) (now (out .entry)) second) .room) × (now (out .exit) ≡ (deliveredAt (now (payload .entry)) at (now (rec .entry)) (now (room .entry)) (now (out .entry)) second) .out) × (now (told .exit) ≡ deliveryNumbers ((deliveredAt (now (payload .entry)) at (now (rec .entry)) (now (room .entry)) (now (out .entry)) second) .received) (now (told .entry))) ⌝ }
+{
+    let r = messages::receive(payload, at, rec, room, out, second);
+    tell(r, told)
+}
