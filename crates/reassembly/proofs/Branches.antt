@@ -1,13 +1,14 @@
 -- Each branch of a call's definition, from the test that leads there. Assumes nothing.
 use mathlib.Core.Path.{_≡_, refl, sym, ap, _∙_}
-use mathlib.Core.Bool.{Bool, true, false, _&&_, _||_, false≢true}
+use mathlib.Core.Bool.{Bool, true, false, cond, not, _&&_, _||_, false≢true}
 use mathlib.Core.List.{List}
 use Prim.Native.Nat.{ℕ, _+_, _*_, _≤_, _<_}
 use native.Mathlib.Omega.{arith}
 use lib.Dec.{eqb, ltb}
 use lib.ListN.{length}
 use borrow.Author.Tests.{lt-ltb, le-ltb, eq-eqb, ne-eqb, le-leb, lt-leb, ltb-true, ltb-false, eqb-false}
-use Rattle.wire.specs.Parts.{splice}
+use native.Mathlib.Numerals.{add-one}
+use Rattle.wire.specs.Parts.{splice, same}
 use Rattle.reassembly.specs.declared.Head.{Head}
 use Rattle.reassembly.specs.declared.Entry.{Entry}
 use Rattle.reassembly.specs.declared.Label.{Label}
@@ -15,8 +16,8 @@ use Rattle.reassembly.specs.declared.Reply.{Reply}
 use Rattle.reassembly.specs.Record.{headAt, withHead, entryAt, withEntry, pieceAt, cleared}
 use Rattle.reassembly.specs.Slots.{firstFrom, isOpenAs, isFree}
 use Rattle.reassembly.specs.Message.{messageOf}
-use Rattle.reassembly.specs.Judge.{again, misfits, grownBy, isWhole, newHead, noHead, isOld}
-use Rattle.reassembly.specs.Calls.{After, after, bare, keptRec, keptRoom, finished, putIn, added, openedIn, openedNow, taken, isShort, badSize, offNumber, firstCall, followOnCall, sweptAt}
+use Rattle.reassembly.specs.Judge.{pick, sameLabel, again, misfits, moreOf, grownBy, isWhole, newHead, noHead, isOld}
+use Rattle.reassembly.specs.Calls.{After, after, bare, keptRec, keptRoom, finished, putIn, added, openedIn, openedNow, taken, isShort, badSize, offNumber, firstCall, followOnCall, sweptAt, sweptTo}
 
 -- a message that is whole has a last number below 128
 pub whole-last : (h : Head) → isWhole h ≡ true → h .last < 128
@@ -180,3 +181,27 @@ good-number k e =
     let p = or-false (eqb k 0) (ltb 127 k) e in
     let z : k ≡ 0 → ⊥ = eqb-false k 0 (p .0) in
     (omega arith, ltb-false 127 k (p .1))
+
+-- a piece whose number is held: 54 where its label and its bytes are the same
+pub again-is : (h : Head) (l : Label) (held v : List ℕ) (p q b : Bool) → p ≡ sameLabel h l → q ≡ same held v → (p && q) ≡ b → cond b 54 55 ≡ again h l held v
+unfolding again
+again-is h l held v p q b e f g = rw (← e, ← f, g) refl
+
+-- the head with a piece more, field by field
+pub grown-is : (h : Head) (l : Label) (n expires count last top kind : ℕ) → expires ≡ pick (eqb (l .number) 0) (l .expires) (h .expires) → count ≡ moreOf (h .count) → last ≡ pick (l .last) (l .number) (h .last) → top ≡ pick (ltb (h .top) (l .number)) (l .number) (h .top) → kind ≡ pick (eqb (l .number) 0) (l .kind) (h .kind) → _≡_ {A = Head} (record { id = h .id; opened = h .opened; expires = expires; total = h .total + n; count = count; last = last; top = top; kind = kind }) (grownBy h l n)
+unfolding grownBy
+grown-is h l n expires count last top kind e c p t k =
+    λ i. record { id = h .id; opened = h .opened; expires = e i; total = h .total + n; count = c i; last = p i; top = t i; kind = k i }
+
+-- the test of a slot, from the head that was read there
+pub open-as : (rec : List ℕ) (id i : ℕ) (h : Head) (p b : Bool) → h ≡ headAt rec i → p ≡ (not (eqb (h .count) 0) && eqb (h .id) id) → p ≡ b → isOpenAs rec id i ≡ b
+unfolding isOpenAs
+open-as rec id i h p b e f g = ap (λ (z : Head). not (eqb (z .count) 0) && eqb (z .id) id) (sym e) ∙ sym f ∙ g
+
+pub free-as : (rec : List ℕ) (i : ℕ) (h : Head) (p b : Bool) → h ≡ headAt rec i → p ≡ eqb (h .count) 0 → p ≡ b → isFree rec i ≡ b
+unfolding isFree
+free-as rec i h p b e f g = ap (λ (z : Head). eqb (z .count) 0) (sym e) ∙ sym f ∙ g
+
+-- one slot more is swept
+pub swept-more : (second : ℕ) (rec₀ rec rec′ : List ℕ) (i : ℕ) → rec ≡ sweptTo second rec₀ i → rec′ ≡ sweptAt second rec i → rec′ ≡ sweptTo second rec₀ (i + 1)
+swept-more second rec₀ rec rec′ i e f = rw (add-one i) (f ∙ ap (λ (z : List ℕ). sweptAt second z i) e)

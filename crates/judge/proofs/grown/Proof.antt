@@ -1,4 +1,4 @@
-use Rattle.reassembly.specs.Judge.{grownBy}
+use Rattle.reassembly.proofs.Branches.{grown-is}
 use borrow.Author.Needs.{needs}
 use Rattle.judge.proofs.grown.Statement.{statement}
 use Rattle.judge.proofs.grown.Tie as tie
@@ -22,8 +22,9 @@ pick8-requires-3 : tie.Need-pick8-requires-3
 pick8-requires-3 c κs = search needs
 
 returns : tie.Need-returns
-unfolding grownBy
-returns c = cc
+returns c =
+    let a = c .before .before .before .before .before .before .before .before .before .args in
+    grown-is (a .h) (a .l) (a .n) (c .before .before .before .before .before .before .before .pick32 .result) (c .before .before .before .before .before .more-of .result) (c .before .before .before .before .pick8 .result) (c .before .pick82 .result) (c .pick83 .result) (c .before .before .before .before .before .before .before .pick32 .ensures) (c .before .before .before .before .before .more-of .ensures) (c .before .before .before .before .pick8 .ensures) (c .before .pick82 .ensures) (c .pick83 .ensures)
 
 pub grown-spec : {M : Type 1} → statement M
 grown-spec =

@@ -4,6 +4,7 @@ use mathlib.Core.Bool.{true, false}
 use mathlib.Core.Path.{_≡_, sym, _∙_}
 use Prim.Native.Nat.{_≤_, _-_}
 use Rattle.reassembly.specs.Slots.{firstFrom, isOpenAs}
+use Rattle.reassembly.proofs.Branches.{open-as}
 use Rattle.reassembly.proofs.Scan.{first-hit, first-miss, first-end}
 use Rattle.slots.proofs.find.Statement.{statement}
 use Rattle.slots.proofs.find.Tie as tie
@@ -24,11 +25,10 @@ opened-as-requires : tie.Need-opened-as-requires Inv-loop μ-loop
 opened-as-requires c κs = search needs
 
 returns : tie.Need-returns Inv-loop μ-loop
-unfolding isOpenAs
 returns c =
     let a = c .before .before .before .before .before .before .args in
     let i = c .before .before .before .before .loop .i in
-    let t : isOpenAs (a .rec .now) (a .id) i ≡ true = cc in
+    let t : isOpenAs (a .rec .now) (a .id) i ≡ true = open-as (a .rec .now) (a .id) i (c .before .before .load-head .result) (c .before .opened-as .result) true (c .before .before .load-head .ensures) (c .before .opened-as .ensures) (c .if1 .taken) in
     sym (c .before .before .before .before .loop .inv .1 ∙ first-hit (isOpenAs (a .rec .now) (a .id)) i 16 (omega arith) t)
 
 add-i : tie.Need-add-i Inv-loop μ-loop
@@ -38,11 +38,10 @@ loop-less : tie.Need-loop-less Inv-loop μ-loop
 loop-less c = search needs
 
 loop-again : tie.Need-loop-again Inv-loop μ-loop
-unfolding isOpenAs
 loop-again c =
     let a = c .before .before .before .before .before .before .args in
     let i = c .before .before .before .before .loop .i in
-    let t : isOpenAs (a .rec .now) (a .id) i ≡ false = cc in
+    let t : isOpenAs (a .rec .now) (a .id) i ≡ false = open-as (a .rec .now) (a .id) i (c .before .before .load-head .result) (c .before .opened-as .result) false (c .before .before .load-head .ensures) (c .before .opened-as .ensures) (c .if1 .left) in
     (omega arith, c .before .before .before .before .loop .inv .1 ∙ first-miss (isOpenAs (a .rec .now) (a .id)) i 16 (omega arith) t)
 
 returns-2 : tie.Need-returns-2 Inv-loop μ-loop

@@ -4,6 +4,7 @@ use mathlib.Core.Bool.{true, false}
 use mathlib.Core.Path.{_≡_, sym, _∙_}
 use Prim.Native.Nat.{_≤_, _-_}
 use Rattle.reassembly.specs.Slots.{firstFrom, isFree}
+use Rattle.reassembly.proofs.Branches.{free-as}
 use Rattle.reassembly.proofs.Scan.{first-hit, first-miss, first-end}
 use Rattle.slots.proofs.vacant.Statement.{statement}
 use Rattle.slots.proofs.vacant.Tie as tie
@@ -24,11 +25,10 @@ unused-requires : tie.Need-unused-requires Inv-loop μ-loop
 unused-requires c κs = search needs
 
 returns : tie.Need-returns Inv-loop μ-loop
-unfolding isFree
 returns c =
     let a = c .before .before .before .before .before .before .args in
     let i = c .before .before .before .before .loop .i in
-    let t : isFree (a .rec .now) i ≡ true = cc in
+    let t : isFree (a .rec .now) i ≡ true = free-as (a .rec .now) i (c .before .before .load-head .result) (c .before .unused .result) true (c .before .before .load-head .ensures) (c .before .unused .ensures) (c .if1 .taken) in
     sym (c .before .before .before .before .loop .inv .1 ∙ first-hit (isFree (a .rec .now)) i 16 (omega arith) t)
 
 add-i : tie.Need-add-i Inv-loop μ-loop
@@ -38,11 +38,10 @@ loop-less : tie.Need-loop-less Inv-loop μ-loop
 loop-less c = search needs
 
 loop-again : tie.Need-loop-again Inv-loop μ-loop
-unfolding isFree
 loop-again c =
     let a = c .before .before .before .before .before .before .args in
     let i = c .before .before .before .before .loop .i in
-    let t : isFree (a .rec .now) i ≡ false = cc in
+    let t : isFree (a .rec .now) i ≡ false = free-as (a .rec .now) i (c .before .before .load-head .result) (c .before .unused .result) false (c .before .before .load-head .ensures) (c .before .unused .ensures) (c .if1 .left) in
     (omega arith, c .before .before .before .before .loop .inv .1 ∙ first-miss (isFree (a .rec .now)) i 16 (omega arith) t)
 
 returns-2 : tie.Need-returns-2 Inv-loop μ-loop

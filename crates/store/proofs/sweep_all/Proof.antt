@@ -2,9 +2,9 @@ use mathlib.Core.Path.{_≡_, ap, _∙_}
 use native.Mathlib.Omega.{arith}
 use lib.ListN.{length}
 use borrow.Author.Needs.{needs}
-use native.Mathlib.Numerals.{add-one}
 use Prim.Native.Nat.{_≤_, _-_}
 use Rattle.reassembly.specs.Calls.{sweptTo}
+use Rattle.reassembly.proofs.Branches.{swept-more}
 use Rattle.store.proofs.sweep_all.Statement.{statement}
 use Rattle.store.proofs.sweep_all.Tie as tie
 
@@ -27,7 +27,10 @@ loop-less : tie.Need-loop-less Inv-loop μ-loop
 loop-less c = search needs
 
 loop-again : tie.Need-loop-again Inv-loop μ-loop
-loop-again c = (search needs, search needs, search needs, rw (add-one (c .before .before .before .before .before .loop .i)) (cc))
+loop-again c =
+    let a = c .before .before .before .before .before .before .before .args in
+    let l = c .before .before .before .before .before .loop in
+    (search needs, search needs, search needs, swept-more (a .second) (a .rec .now) (l .rec) (c .before .before .sweep-one .last .0) (l .i) (l .inv .3) (c .before .before .sweep-one .ensures))
 
 same-length : tie.Need-same-length Inv-loop μ-loop
 same-length c = search needs
