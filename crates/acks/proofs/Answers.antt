@@ -1,14 +1,19 @@
 -- What expanding answers, case by case. Assumes nothing.
-use mathlib.Core.Path.{_≡_, ap}
+use mathlib.Core.Path.{_≡_, refl, ap}
 use mathlib.Core.Bool.{Bool, cond}
-use mathlib.Core.List.{List}
+use mathlib.Core.List.{List, [], _∷_}
 use Prim.Native.Nat.{ℕ, _+_, _≤_, _<_}
 use borrow.Author.Tests.{lt-ltb, le-ltb}
 use lib.Dec.{ltb}
 use lib.ListN.{length}
 use Rattle.wire.specs.Parts.{splice}
-use Rattle.acks.specs.Runs.{whole, total}
+use Rattle.acks.specs.Runs.{flags, named, whole, total}
 use Rattle.acks.specs.Expanding.{numbers, expandAnswer, expandOf, listAfter}
+
+-- a last odd byte is no run: 2 below 6, then a pair of 1 and 3, and the 7 is passed over
+pub odd-byte : expandAnswer 6 2 (1 ∷ 3 ∷ 7 ∷ []) 7 ≡ 0
+unfolding expandAnswer numbers named flags whole total
+odd-byte = refl
 
 module _ (through count : ℕ) (ps : List ℕ) where
   pub says-44 : (room : ℕ) → through < count + total (whole ps) → expandAnswer through count ps room ≡ 44
