@@ -1,6 +1,4 @@
 // Where a block ends: the tests of a body, by family, and their refusals.
-pub mod sound;
-
 use blocks::Extent;
 use blocks::Taken;
 use wire::be_u16;
@@ -16,7 +14,7 @@ pub fn is_listed(kind: u8) -> bool
     ((1 <= kind) & (kind <= 3)) | ((10 <= kind) & (kind <= 11)) | ((18 <= kind) & (kind <= 26))
 }
 
-pub(crate) fn wide(x: u16) -> usize
+pub fn wide(x: u16) -> usize
     ensures { λ r. ⌜ (r ≡ x) × (r < 65536) ⌝ }
 {
     x as usize
@@ -33,7 +31,7 @@ fn fits_in(need: usize, left: usize) -> Taken
 }
 
 // What Options and Termination take: size, but no less than their fields.
-pub(crate) fn at_least(fields: usize, size: usize) -> usize
+pub fn at_least(fields: usize, size: usize) -> usize
     ensures { λ r. ⌜ r ≡ atLeast fields size ⌝ }
 {
     if fields <= size {

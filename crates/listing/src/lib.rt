@@ -1,7 +1,7 @@
 // Listing a payload: a record for each block, in a list that the caller lends. The Rust's `parse_multiple`.
 use blocks::Extent;
-use extents::sound::body_length;
-use extents::sound::quick_extent;
+use sound::body_length;
+use sound::quick_extent;
 use wire::be_u16;
 ghost use mathlib.Core.Path.{_≡_};
 ghost use mathlib.Core.Bool.{cond};

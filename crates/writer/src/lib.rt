@@ -1,6 +1,4 @@
 // Writing one block to the start of a room, its bytes lent beside its value.
-mod fields;
-
 use blocks::Block;
 use blocks::Written;
 use extents::is_listed;
