@@ -1,4 +1,4 @@
--- What the contracts of `extents`, `reader` and `writer` cite.
+-- What the contracts of `extents`, `sound`, `reader`, `fields` and `writer` cite.
 pub mod Extent
 pub mod Sound
 pub mod Reading
