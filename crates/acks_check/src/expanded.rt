@@ -35,7 +35,7 @@ fn same_list(list: &[u32; 512], want: &[u8], n: usize) -> bool
     let mut ok = true;
     let mut i = 0;
     while i < n {
-        ok = ok & (list[i] == wire::be_u32(want, 4 * i));
+        ok = ok & (list[i] == wire_reads::be_u32(want, 4 * i));
         i += 1;
     }
     ok

@@ -25,7 +25,7 @@ fn start(n: u32, bytes: &mut [u8; 259]) -> Tracker {
     let i = (n % 255) as usize;
     marks[i] = 1;
     fresh[4 + i] = 1;
-    wire::put_u32_le(&mut fresh, 0, n);
+    wire_puts::put_u32_le(&mut fresh, 0, n);
     *bytes = fresh;
     Tracker { highest: n, marks }
 }

@@ -1,7 +1,7 @@
 // Where a block ends: the tests of a body, by family, and their refusals.
 use blocks::Extent;
 use blocks::Taken;
-use wire::be_u16;
+use wire_reads::be_u16;
 ghost use mathlib.Core.Path.{_≡_};
 ghost use Prim.Native.Nat.{_+_, _<_, _≤_};
 ghost use lib.ListN.{length};

@@ -1,8 +1,8 @@
 // A block's fields, put after its type and size.
 use blocks::Block;
-use wire::put_u16;
-use wire::put_u32;
-use wire::put_u64;
+use wire_puts::put_u16;
+use wire_puts::put_u32;
+use wire_puts::put_u64;
 ghost use mathlib.Core.Path.{_≡_};
 ghost use mathlib.Core.Bool.{cond};
 ghost use mathlib.Core.List.{[], _∷_, _++_};

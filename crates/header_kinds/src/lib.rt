@@ -67,7 +67,7 @@ pub fn refusal(head: [u8; 16], n: usize) -> u32
 {
     let t = head[12];
     let v = head[13];
-    let number = wire::be_u32(&head, 8);
+    let number = wire_reads::be_u32(&head, 8);
     if !is_listed(t) {
         return 21;
     }

@@ -2,7 +2,7 @@
 use blocks::Extent;
 use sound::body_length;
 use sound::quick_extent;
-use wire::be_u16;
+use wire_reads::be_u16;
 ghost use mathlib.Core.Path.{_≡_};
 ghost use mathlib.Core.Bool.{cond};
 ghost use lib.ListN.{length};

@@ -17,12 +17,12 @@ fn long_at(pkt: &[u8]) -> Long
     ensures { λ r. ⌜ r ≡ longAt (now (pkt .entry)) ⌝ }
 {
     Long {
-        destination: wire::le_u64(pkt, 0),
-        number: wire::be_u32(pkt, 8),
+        destination: wire_reads::le_u64(pkt, 0),
+        number: wire_reads::be_u32(pkt, 8),
         version: pkt[13],
         network: pkt[14],
-        source: wire::le_u64(pkt, 16),
-        token: wire::le_u64(pkt, 24),
+        source: wire_reads::le_u64(pkt, 16),
+        token: wire_reads::le_u64(pkt, 24),
     }
 }
 
@@ -56,16 +56,16 @@ pub(crate) fn kind_of(pkt: &[u8]) -> HeaderKind
     let t = pkt[12];
     if t == 2 {
         return HeaderKind::SessionConfirmed {
-            destination: wire::le_u64(pkt, 0),
-            number: wire::be_u32(pkt, 8),
+            destination: wire_reads::le_u64(pkt, 0),
+            number: wire_reads::be_u32(pkt, 8),
             fragment: pkt[13] / 16,
             count: pkt[13] % 16,
         };
     }
     if t == 6 {
         return HeaderKind::Data {
-            destination: wire::le_u64(pkt, 0),
-            number: wire::be_u32(pkt, 8),
+            destination: wire_reads::le_u64(pkt, 0),
+            number: wire_reads::be_u32(pkt, 8),
             immediate: pkt[13] % 2 == 1,
         };
     }
@@ -117,8 +117,8 @@ fn put_front(f: Fields, pkt: &mut [u8])
 {
     let b13 = thirteenth(f);
     let b14 = fourteenth(f);
-    wire::put_u64_le(pkt, 0, f.destination);
-    wire::put_u32(pkt, 8, f.number);
+    wire_puts::put_u64_le(pkt, 0, f.destination);
+    wire_puts::put_u32(pkt, 8, f.number);
     put_bytes(pkt, f.kind, b13, b14);
 }
 
@@ -127,8 +127,8 @@ fn put_ids(f: Fields, pkt: &mut [u8])
     requires { ⌜ 32 ≤ length (now pkt) ⌝ }
     ensures { λ _. ⌜ now (pkt .exit) ≡ splice (now (pkt .entry)) 16 (idBytes f) ⌝ }
 {
-    wire::put_u64_le(pkt, 16, f.source);
-    wire::put_u64_le(pkt, 24, f.token);
+    wire_puts::put_u64_le(pkt, 16, f.source);
+    wire_puts::put_u64_le(pkt, 24, f.token);
 }
 
 // The plain header from the packet's start.

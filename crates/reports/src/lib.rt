@@ -57,6 +57,6 @@ pub fn report_in(tracker: &[u8]) -> AckInfo
     if tracker.len() < 259 {
         return refused(59);
     }
-    let top = wire::le_u32(tracker, 0);
+    let top = wire_reads::le_u32(tracker, 0);
     report_of(&tracker[4..259], top)
 }

@@ -12,10 +12,10 @@ fn head_of(b: &[u8]) -> Head
     ensures { λ r. ⌜ r ≡ headOf (now (b .entry)) ⌝ }
 {
     Head {
-        id: wire::le_u32(b, 0),
-        opened: wire::le_u64(b, 4),
-        expires: wire::le_u32(b, 12),
-        total: wire::le_u16(b, 16),
+        id: wire_reads::le_u32(b, 0),
+        opened: wire_reads::le_u64(b, 4),
+        expires: wire_reads::le_u32(b, 12),
+        total: wire_reads::le_u16(b, 16),
         count: b[18],
         last: b[19],
         top: b[20],
@@ -79,8 +79,8 @@ fn entry_of(b: &[u8]) -> Entry
     ensures { λ r. ⌜ r ≡ entryOf (now (b .entry)) ⌝ }
 {
     Entry {
-        place: wire::le_u16(b, 0),
-        len: wire::le_u16(b, 2),
+        place: wire_reads::le_u16(b, 0),
+        len: wire_reads::le_u16(b, 2),
     }
 }
 

@@ -4,7 +4,7 @@ use extents::at_least;
 use extents::extent_of;
 use extents::is_listed;
 use extents::wide;
-use wire::be_u16;
+use wire_reads::be_u16;
 ghost use mathlib.Core.Path.{_≡_};
 ghost use Prim.Native.Nat.{_+_, _<_, _≤_};
 ghost use mathlib.Core.Bool.{cond};

@@ -9,12 +9,12 @@ pub fn register_in(tracker: &mut [u8], n: u32) -> u32
     if tracker.len() < 259 {
         return 59;
     }
-    let top = wire::le_u32(tracker, 0);
+    let top = wire_reads::le_u32(tracker, 0);
     let answer = marks::answer(&tracker[4..259], top, n);
     if answer != 0 {
         return answer;
     }
-    wire::put_u32_le(tracker, 0, marks::larger(top, n));
+    wire_puts::put_u32_le(tracker, 0, marks::larger(top, n));
     marks::accept(&mut tracker[4..259], top, n);
     0
 }
@@ -26,7 +26,7 @@ pub fn is_duplicate_in(tracker: &[u8], n: u32) -> u32
     if tracker.len() < 259 {
         return 59;
     }
-    let top = wire::le_u32(tracker, 0);
+    let top = wire_reads::le_u32(tracker, 0);
     if marks::holds(&tracker[4..259], top, n) {
         return 1;
     }

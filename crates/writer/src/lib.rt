@@ -5,7 +5,7 @@ use extents::is_listed;
 use fields::put_fields;
 use fields::put_u8;
 use wire::copy_to;
-use wire::put_u16;
+use wire_puts::put_u16;
 ghost use mathlib.Core.Path.{_≡_};
 ghost use mathlib.Core.Bool.{cond};
 ghost use Prim.Native.Nat.{_+_, _≤_};
