@@ -4,8 +4,8 @@
 # make second: the library beside an independent program of the rules; WORDS=-l for the long round.
 .PHONY: list test oracle bench calls fuzz rust second
 
-# rt waits for the slowest of each batch: batches of eight keep two cores busy. Large pages make the prover about a tenth faster.
-export RT_JOBS ?= 8
+# rt waits for the slowest of each batch: batches of three keep two cores busy. Large pages take some 8 percent off a proof.
+export RT_JOBS ?= 3
 export GLIBC_TUNABLES ?= glibc.malloc.hugetlb=1
 
 # a sample unless FILE names a payload
