@@ -1,4 +1,4 @@
--- Demand 1 of the C calls: where one answers by numbers, its refusal leaves the lent numbers, records and rooms as they were. The other calls of strawhub are equations with the definitions of specs/Demand1.antt.
+-- Demand 1 of the C calls: where one answers by numbers, its refusal leaves the lent numbers, records and rooms as they were. The other C calls are equations with the definitions of specs/Demand1.antt.
 use mathlib.Core.Path.{_≡_}
 use mathlib.Core.List.{List, [], _∷_}
 use Prim.Native.Nat.{ℕ}
