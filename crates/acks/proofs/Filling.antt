@@ -10,7 +10,7 @@ use Rattle.acks.specs.Window.{falling}
 use Rattle.acks.specs.Runs.{whole, total}
 use Rattle.acks.specs.Expanding.{numbers}
 use Rattle.acks.proofs.Falling.{length-falling}
-use Rattle.acks.proofs.Lists.{splice-none, splice-more}
+use Rattle.wire.proofs.Slices.{splice-none, splice-more}
 use Rattle.acks.proofs.Named.{falling-snoc, left, left-step, left-end, total-step, numbers-start, length-numbers}
 
 -- one more number put

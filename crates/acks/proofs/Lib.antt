@@ -3,7 +3,6 @@ pub mod RunLengths
 pub mod Falling
 pub mod View
 pub mod Pairs
-pub mod Lists
 pub mod Named
 pub mod Measuring
 pub mod Filling

@@ -1,6 +1,6 @@
 -- What the received numbers of the window settle: two histories that share them report the same. Assumes nothing.
 use mathlib.Core.Path.{_≡_, refl, sym, ap, _∙_}
-use mathlib.Core.Bool.{Bool, true, false, cond, _&&_, _||_}
+use mathlib.Core.Bool.{Bool, true, false, cond, _&&_, _||_, and-false, or-true}
 use mathlib.Core.List.{List, [], _∷_, map}
 use mathlib.Core.Logic.{_⊎_, inl, inr, ⊎-elim}
 use Prim.Native.Nat.{ℕ, zero, suc, _+_, _-_, _≤_, _<_, max, min}
@@ -60,10 +60,6 @@ same-report top p q e =
     rw (a, b)
 
 -- once a number was received the highest is among the received
-or-true : (a : Bool) → (a || true) ≡ true
-or-true true = refl
-or-true false = refl
-
 pub highest-among : (l : List ℕ) → 0 < length l → among l (highestOf l) ≡ true
 unfolding among highestOf
 highest-among [] h = absurd (omega arith)
@@ -108,10 +104,6 @@ in-window top n =
     (split top n)
 
 -- a number is among those kept exactly if it was there and the test takes it
-and-false : (a : Bool) → (a && false) ≡ false
-and-false true = refl
-and-false false = refl
-
 pub among-keep : (p : ℕ → Bool) (l : List ℕ) (n : ℕ) → among (keep p l) n ≡ (among l n && p n)
 unfolding among keep
 among-keep p [] n = refl

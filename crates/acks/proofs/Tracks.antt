@@ -1,6 +1,6 @@
 -- A tracker that a history of calls made holds what the history means. Assumes nothing.
 use mathlib.Core.Path.{_≡_, refl, sym, ap, _∙_}
-use mathlib.Core.Bool.{Bool, true, false, not, cond, _&&_, _||_}
+use mathlib.Core.Bool.{Bool, true, false, not, cond, _&&_, _||_, or-true}
 use mathlib.Core.List.{List, [], _∷_}
 use mathlib.Core.Logic.{⊎-elim}
 use Prim.Native.Nat.{ℕ, _+_, _-_, _%_, _≤_, _<_, max}
@@ -22,10 +22,6 @@ pub record Tracks (top : ℕ) (got : ℕ → Bool) (t : Tracker) : Type 0 where
   pub inside : (k : ℕ) → k ≤ top → top < k + 255 → mark (t .marks) k ≡ got k
   pub above : (k : ℕ) → top < k → got k ≡ false
   pub begun : 0 < top → (got top ≡ true) × (got 0 ≡ true)
-
-or-true : (a : Bool) → (a || true) ≡ true
-or-true true = refl
-or-true false = refl
 
 module _ {top : ℕ} {got : ℕ → Bool} {t : Tracker} (w : Tracks top got t) where
   -- ---- asking

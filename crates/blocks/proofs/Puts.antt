@@ -1,10 +1,10 @@
 -- Laws of writing a block: one put after another, and the answers in their order. Assumes nothing.
 use mathlib.Core.Path.{_≡_, refl, sym, ap, _∙_}
 use mathlib.Core.Bool.{Bool, true, false, cond}
-use mathlib.Core.List.{List, [], _∷_, _++_, append-nil, append-assoc}
+use mathlib.Core.List.{List, [], _∷_, _++_, append-assoc}
 use Prim.Native.Nat.{ℕ, _+_, _%_, _≤_, _<_}
 use native.Mathlib.Omega.{arith}
-use lib.ListN.{length, take, drop, length-append, take-append-drop}
+use lib.ListN.{length, length-append}
 use borrow.Author.Tests.{lt-ltb, le-ltb}
 use Rattle.wire.specs.Parts.{splice}
 use Rattle.wire.specs.Numbers.{littleBytes, bigBytes}
@@ -21,13 +21,6 @@ pub puts : (l : List ℕ) (o k j p : ℕ) (v w : List ℕ) {m n : List ℕ} → 
 puts l o k j p v w {m} {n} hv hw hp fits e f =
     let q : p ≡ o + length v = omega arith in
     (splice-then l o v w (omega arith) e (f ∙ ap (λ (z : ℕ). splice m z w) q), omega (arith, length-append v w))
-
--- nothing put
-pub puts-none : (l : List ℕ) (o : ℕ) → l ≡ splice l o []
-unfolding splice
-puts-none l o =
-    let e : o + 0 ≡ o = omega arith in
-    sym (ap (λ (z : ℕ). take o l ++ [] ++ drop z l) e ∙ ap (λ (z : List ℕ). z ++ drop o l) (append-nil (take o l)) ∙ take-append-drop o l)
 
 pub join-five : (a b c d e : List ℕ) → a ++ (b ++ c ++ d ++ e) ≡ a ++ b ++ c ++ d ++ e
 join-five a b c d e = simp append-assoc

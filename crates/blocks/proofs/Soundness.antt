@@ -13,15 +13,13 @@ use Rattle.blocks.specs.declared.Taken.the-variants as Take
 use Rattle.blocks.specs.Extent.{listed, fitsIn, atLeast, routerInfo, i2np, firstFragment, followOn, pairsIn, address, takenAt}
 use Rattle.blocks.specs.Sound.{floorOf, ignoresSize, counted, bodyLength, tested, sound}
 use Rattle.blocks.specs.Writing.{named}
-use Rattle.blocks.proofs.Types.{apart, by-kind, or-true, and-true}
+use Rattle.wire.proofs.Tests.{and-both, or-either}
+use Rattle.blocks.proofs.Types.{apart, by-kind}
 
 -- ---- lengths
 
 from-none : (z : ℕ) → atLeast 0 z ≡ z
 from-none z = rw (le-leb 0 z (omega arith))
-
-at-least-is : (f z : ℕ) → f ≤ z → atLeast f z ≡ z
-at-least-is f z h = rw (le-leb f z h)
 
 at-least-floor : (f z : ℕ) → z ≤ f → atLeast f z ≡ f
 at-least-floor f z h = go (leb f z) refl
@@ -83,7 +81,7 @@ high-length k z h =
 pub message-length : (k z : ℕ) → (eqb k 3 || eqb k 4) ≡ true → bodyLength k z ≡ z
 unfolding bodyLength floorOf counted ignoresSize
 message-length k z t =
-    ⊎-elim (λ e. ap (λ (j : ℕ). bodyLength j z) (eqb-true k 3 e) ∙ from-none z) (λ e. ap (λ (j : ℕ). bodyLength j z) (eqb-true k 4 e) ∙ from-none z) (or-true (eqb k 3) (eqb k 4) t)
+    ⊎-elim (λ e. ap (λ (j : ℕ). bodyLength j z) (eqb-true k 3 e) ∙ from-none z) (λ e. ap (λ (j : ℕ). bodyLength j z) (eqb-true k 4 e) ∙ from-none z) (or-either (eqb k 3) (eqb k 4) t)
 
 -- ---- what is taken
 
@@ -157,14 +155,14 @@ module _ (s : List ℕ) (body z : ℕ) where
   message : z ≤ left → (leb 9 z && listed (getD s body 0)) ≡ true → i2np s body z ≡ Take.Bytes z
   unfolding i2np
   message h t =
-      let b = and-true (leb 9 z) (listed (getD s body 0)) t in
+      let b = and-both (leb 9 z) (listed (getD s body 0)) t in
       let n : 9 ≤ z = leb-true 9 z (b .0) in
       rw (le-ltb z 9 n, le-ltb left 9 (omega arith), b .1) (whole z h)
 
   first : z ≤ left → (leb 10 z && listed (getD s body 0)) ≡ true → firstFragment s body z ≡ Take.Bytes z
   unfolding firstFragment
   first h t =
-      let b = and-true (leb 10 z) (listed (getD s body 0)) t in
+      let b = and-both (leb 10 z) (listed (getD s body 0)) t in
       let n : 10 ≤ z = leb-true 10 z (b .0) in
       rw (le-ltb left 9 (omega arith), b .1, lt-leb z 9 (omega arith), le-ltb left z h)
 
@@ -183,7 +181,7 @@ module _ (s : List ℕ) (body z : ℕ) where
   eighteen e h = let n = eqb-true z 18 e in rw (le-ltb left 2 (omega (arith, n)), ne-eqb z 6 (λ q. absurd (omega (arith, n, q))), e) (whole 18 (omega (arith, n)) ∙ ap Take.Bytes (sym n))
 
   addressed : z ≤ left → (eqb z 6 || eqb z 18) ≡ true → address z left ≡ Take.Bytes z
-  addressed h t = ⊎-elim (λ e. six e h) (λ e. eighteen e h) (or-true (eqb z 6) (eqb z 18) t)
+  addressed h t = ⊎-elim (λ e. six e h) (λ e. eighteen e h) (or-either (eqb z 6) (eqb z 18) t)
 
   -- a body whose bytes are there and that passes its tests is taken
   pub sound-taken : (k : ℕ) → bodyLength k z ≤ left → sound s body k z ≡ true → takenAt s body k z ≡ Take.Bytes (bodyLength k z)

@@ -5,7 +5,7 @@ use Prim.Native.Nat.{ℕ, zero, suc, _<_}
 use native.Mathlib.Omega.{arith}
 use lib.Dec.{eqb}
 use borrow.Author.Tests.{eqb-true, eqb-false}
-use Rattle.blocks.proofs.Types.{and-true}
+use Rattle.wire.proofs.Tests.{and-both}
 
 abbrev pub below : (ℕ → Bool) → ℕ → Bool
 below rule zero = true
@@ -13,8 +13,8 @@ below rule (suc n) = rule n && below rule n
 
 pub at : (rule : ℕ → Bool) (n : ℕ) → below rule n ≡ true → (k : ℕ) → k < n → rule k ≡ true
 at rule zero e k h = absurd (omega arith)
-at rule (suc n) e k h = go (λ g. at rule n (and-true (rule n) (below rule n) e .1) k g) (eqb n k) refl
+at rule (suc n) e k h = go (λ g. at rule n (and-both (rule n) (below rule n) e .1) k g) (eqb n k) refl
   where
     go : (k < n → rule k ≡ true) → (b : Bool) → eqb n k ≡ b → rule k ≡ true
-    go less true q = subst (λ (j : ℕ). rule j ≡ true) (eqb-true n k q) (and-true (rule n) (below rule n) e .0)
+    go less true q = subst (λ (j : ℕ). rule j ≡ true) (eqb-true n k q) (and-both (rule n) (below rule n) e .0)
     go less false q = let d = eqb-false n k q in less (omega (arith, d))

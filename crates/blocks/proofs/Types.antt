@@ -1,12 +1,13 @@
 -- Types: those that have a body of their own, one by one, and the others. Assumes nothing.
 use mathlib.Core.Path.{_≡_, refl, sym, ap, _∙_, subst}
-use mathlib.Core.Bool.{Bool, true, false, _&&_, _||_, false≢true}
+use mathlib.Core.Bool.{Bool, true, false, _||_, false≢true}
 use mathlib.Core.List.{List}
-use mathlib.Core.Logic.{_⊎_, inl, inr, ⊎-elim}
+use mathlib.Core.Logic.{⊎-elim}
 use Prim.Native.Nat.{ℕ, zero, suc, _+_, _-_, _≤_}
 use native.Mathlib.Omega.{arith}
 use lib.Dec.{leb, eqb}
 use borrow.Author.Tests.{leb-true, eqb-true}
+use Rattle.wire.proofs.Tests.{and-both, or-either}
 use Rattle.blocks.specs.declared.Block.the-variants as Body
 use Rattle.blocks.specs.Extent.{within}
 use Rattle.blocks.specs.Reading.{bytesAt, blockAt}
@@ -35,14 +36,6 @@ two Q a b zero h = a
 two Q a b (suc zero) h = b
 two Q a b (suc (suc j)) h = absurd (omega arith)
 
-pub or-true : (x y : Bool) → (x || y) ≡ true → (x ≡ true) ⊎ (y ≡ true)
-or-true true y e = inl refl
-or-true false y e = inr e
-
-pub and-true : (x y : Bool) → (x && y) ≡ true → (x ≡ true) × (y ≡ true)
-and-true true y e = (refl, e)
-and-true false y e = absurd (false≢true e)
-
 -- what holds of each type that has a body of its own, and of the others, holds of every type
 pub by-kind : (P : ℕ → Type 0) → P 0 → P 1 → P 2 → P 3 → P 4 → P 5 → P 6 → P 12 → P 13 → P 15 → P 16 → P 17 → P 18 → P 19 → P 20 → P 21 → P 254 → ((k : ℕ) → named k ≡ false → P k) → (k : ℕ) → P k
 unfolding named
@@ -56,19 +49,19 @@ by-kind P p0 p1 p2 p3 p4 p5 p6 p12 p13 p15 p16 p17 p18 p19 p20 p21 p254 others k
 
     middle : within 12 13 k ≡ true → P k
     middle e =
-        let b = and-true (leb 12 k) (leb k 13) e in
+        let b = and-both (leb 12 k) (leb k 13) e in
         up 12 (leb-true 12 k (b .0)) (two (λ j. P (12 + j)) p12 p13 (k - 12) (omega (arith, leb-true k 13 (b .1))))
 
     high : within 15 21 k ≡ true → P k
     high e =
-        let b = and-true (leb 15 k) (leb k 21) e in
+        let b = and-both (leb 15 k) (leb k 21) e in
         up 15 (leb-true 15 k (b .0)) (seven (λ j. P (15 + j)) p15 p16 p17 p18 p19 p20 p21 (k - 15) (omega (arith, leb-true k 21 (b .1))))
 
     go : (b : Bool) → named k ≡ b → P k
     go false e = others k e
     go true e =
-        ⊎-elim (λ x. ⊎-elim (λ y. ⊎-elim low middle (or-true (leb k 6) (within 12 13 k) y)) high (or-true (leb k 6 || within 12 13 k) (within 15 21 k) x))
-        (λ x. subst P (sym (eqb-true k 254 x)) p254) (or-true ((leb k 6 || within 12 13 k) || within 15 21 k) (eqb k 254) e)
+        ⊎-elim (λ x. ⊎-elim (λ y. ⊎-elim low middle (or-either (leb k 6) (within 12 13 k) y)) high (or-either (leb k 6 || within 12 13 k) (within 15 21 k) x))
+        (λ x. subst P (sym (eqb-true k 254 x)) p254) (or-either ((leb k 6 || within 12 13 k) || within 15 21 k) (eqb k 254) e)
 
 -- the others are opaque
 pub opaque-is : (s : List ℕ) (o k n : ℕ) → named k ≡ false → blockAt s o k n ≡ Body.Opaque k (bytesAt o n)

@@ -10,6 +10,7 @@ use lib.Seq.{take-at, drop-at, getD-append-add}
 use borrow.Author.Tests.{ltb-false, eqb-true, eqb-false, le-leb, lt-leb, le-ltb, eq-eqb, ne-eqb}
 use Rattle.wire.specs.Parts.{part, splice}
 use Rattle.wire.specs.Numbers.{big, bigBytes, bigAt}
+use Rattle.wire.proofs.Tests.{or-neither}
 use Rattle.wire.proofs.Parts.{length-splice, part-right}
 use Rattle.wire.proofs.Numbers.{length-big, big-back}
 use Rattle.blocks.specs.declared.Block.{Block}
@@ -72,10 +73,6 @@ module _ (w head rest : List ℕ) (is : w ≡ head ++ rest) (three : length head
 follow-on-back : (m : ℕ) (l : Bool) → m ≤ 127 → ((m * 2 + cond l 1 0) % 256 / 2 ≡ m) × (eqb ((m * 2 + cond l 1 0) % 256 % 2) 1 ≡ l)
 follow-on-back m true h = (omega arith, let e : (m * 2 + 1) % 256 % 2 ≡ 1 = omega arith in eq-eqb _ 1 e)
 follow-on-back m false h = (omega arith, let e : (m * 2 + 0) % 256 % 2 ≡ 1 → ⊥ = λ z. omega arith in ne-eqb _ 1 e)
-
-or-false : (x y : Bool) → (x || y) ≡ false → (x ≡ false) × (y ≡ false)
-or-false true y e = (e, absurd (false≢true (sym e)))
-or-false false y e = (refl, e)
 
 not-false : (x : Bool) → not x ≡ false → x ≡ true
 not-false true e = refl
@@ -141,7 +138,7 @@ module _ (body tail w : List ℕ) (z : ℕ) where
   value (Body.FollowOnFragment m l i p) is q h f =
       let n : z - 5 ≡ length body = omega arith in
       let v = m * 2 + cond l 1 0 in
-      let back = follow-on-back m l (ltb-false 127 m (or-false (eqb (length body) 0) (ltb 127 m) f .1)) in
+      let back = follow-on-back m l (ltb-false 127 m (or-neither (eqb (length body) 0) (ltb 127 m) f .1)) in
       rw (
         on (Body.FollowOnFragment m l i p) is ((m * 2 + cond l 1 0) % 256) 0 [] (bigBytes 4 i ++ tail) (simp (← one-byte, append-assoc)) refl,
         at (Body.FollowOnFragment m l i p) is 4 i 1 (bigBytes 1 (m * 2 + cond l 1 0)) tail h (simp append-assoc) (length-big 1 v),
@@ -181,11 +178,11 @@ module _ (body tail w : List ℕ) (z : ℕ) where
   takes (Body.I2np k i x p) is q f h =
       rw (le-ltb z 9 (omega arith), le-ltb (length w - 3) 9 (omega arith), on (Body.I2np k i x p) is k 0 [] (bigBytes 4 i ++ bigBytes 4 x ++ tail) refl refl, not-false (listed k) f, le-leb z (length w - 3) (omega arith))
   takes (Body.FirstFragment k i x p) is q f h =
-      let g = or-false (eqb (length body) 0) (not (listed k)) f in
+      let g = or-neither (eqb (length body) 0) (not (listed k)) f in
       let n = eqb-false (length body) 0 (g .0) in
       rw (le-ltb (length w - 3) 9 (omega arith), on (Body.FirstFragment k i x p) is k 0 [] (bigBytes 4 i ++ bigBytes 4 x ++ tail) refl refl, not-false (listed k) (g .1), lt-leb z 9 (omega arith), le-ltb (length w - 3) z (omega arith))
   takes (Body.FollowOnFragment m l i p) is q f h =
-      let n = eqb-false (length body) 0 (or-false (eqb (length body) 0) (ltb 127 m) f .0) in
+      let n = eqb-false (length body) 0 (or-neither (eqb (length body) 0) (ltb 127 m) f .0) in
       rw (le-ltb (length w - 3) 5 (omega arith), lt-leb z 5 (omega arith), le-ltb (length w - 3) z (omega arith))
   takes (Body.Termination m r) is q f h = rw (q, le-leb 9 (length w - 3) (omega arith))
   takes (Body.Ack t m p) is q f h =

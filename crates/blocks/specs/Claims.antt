@@ -1,6 +1,6 @@
 -- What is shown of reading and writing together.
 use mathlib.Core.Path.{_≡_}
-use mathlib.Core.List.{List, [], _∷_}
+use mathlib.Core.List.{List}
 use Prim.Native.Nat.{ℕ, _+_, _-_, _^_, _<_, _≤_}
 use lib.ListN.{length}
 use Rattle.wire.specs.Parts.{part, splice}
@@ -10,7 +10,7 @@ use Rattle.blocks.specs.declared.Block.the-variants as Body
 use Rattle.blocks.specs.declared.Read.the-variants as Got
 use Rattle.blocks.specs.declared.Written.the-variants as Wrote
 use Rattle.blocks.specs.Reading.{bytesAt, readAt, partOf}
-use Rattle.blocks.specs.Writing.{kindOf, fieldLength, bytesOf, sizeOf, writing, roomAfter}
+use Rattle.blocks.specs.Writing.{fieldLength, bytesOf, sizeOf, writing, roomAfter}
 
 -- every number of a block fits its bytes, as it does in a value of the program
 abbrev pub Fitting : Block → Type 0

@@ -1,6 +1,7 @@
 // Where a block ends: the tests of a body, by family, and their refusals.
 use blocks::Extent;
 use blocks::Taken;
+use wire::usize_from_u16;
 use wire_reads::be_u16;
 ghost use mathlib.Core.Path.{_≡_};
 ghost use Prim.Native.Nat.{_+_, _<_, _≤_};
@@ -12,12 +13,6 @@ pub fn is_listed(kind: u8) -> bool
     ensures { λ r. ⌜ r ≡ listed kind ⌝ }
 {
     ((1 <= kind) & (kind <= 3)) | ((10 <= kind) & (kind <= 11)) | ((18 <= kind) & (kind <= 26))
-}
-
-pub fn wide(x: u16) -> usize
-    ensures { λ r. ⌜ (r ≡ x) × (r < 65536) ⌝ }
-{
-    x as usize
 }
 
 // A body of `need` bytes where `left` are left.
@@ -174,7 +169,7 @@ pub fn extent_of(payload: &[u8], at: usize) -> Extent
     }
     let kind = payload[at];
     let size = be_u16(payload, at + 1);
-    match taken_at(payload, at + 3, kind, wide(size)) {
+    match taken_at(payload, at + 3, kind, usize_from_u16(size)) {
         Taken::Bytes { count } => Extent::Ends {
             kind,
             size,

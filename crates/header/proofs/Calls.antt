@@ -4,13 +4,13 @@ use mathlib.Core.List.{List}
 use Prim.Native.Nat.{ℕ, _+_, _≤_, _<_}
 use native.Mathlib.Omega.{arith}
 use lib.ListN.{length, getD}
-use borrow.Author.Tests.{lt-ltb, le-ltb, eq-eqb, ne-eqb}
+use borrow.Author.Tests.{lt-ltb, le-ltb, ne-eqb}
 use Rattle.wire.specs.Parts.{part, splice}
 use Rattle.header.specs.declared.Fields.{Fields}
 use Rattle.header.specs.declared.HeaderKind.{HeaderKind}
 use Rattle.header.specs.declared.Answer.the-variants.{Header, Refused}
 use Rattle.header.specs.Kinds.{longOf, needOf}
-use Rattle.header.specs.Unmasking.{front, rest, typeOf, unmasked}
+use Rattle.header.specs.Unmasking.{front, rest, unmasked}
 use Rattle.header.specs.Reading.{refusalOf, readNumber, kindOf, answerOf, leftBy}
 use Rattle.header.specs.Writing.{writeNumber, plain, written, leftByWrite}
 use Rattle.header.proofs.Fronts.{front-kept, front-type}

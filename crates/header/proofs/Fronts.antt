@@ -6,12 +6,12 @@ use Prim.Native.Nat.{ℕ, _+_, _-_, _≤_}
 use native.Mathlib.Omega.{arith}
 use lib.ListN.{length, getD, take, drop, replicate}
 use Rattle.wire.specs.Parts.{part, splice}
-use Rattle.wire.proofs.Parts.{part-all, getD-part, splice-all, splice-front, length-part}
+use Rattle.wire.proofs.Parts.{getD-part, splice-all, splice-front, length-part}
 use Rattle.keystream.specs.Chacha.{block}
 use Rattle.keystream.specs.Mask.{masked}
 use Rattle.keystream.proofs.Masks.{length-masked, masked-other, masked-twice, masked-none, masked-drop, masked-front, masked-swap}
 use Rattle.header.specs.Kinds.{longOf}
-use Rattle.header.specs.Unmasking.{stream, nonce1, nonce2, front, rest, typeOf, unmasked}
+use Rattle.header.specs.Unmasking.{stream, nonce1, nonce2, front, rest, typeOf}
 
 -- n bytes from a place on, copied over as many others
 pub copied : (o p : List ℕ) {x : List ℕ} (at m n : ℕ) → m ≡ n → at + n ≤ length p → length o ≡ n → x ≡ splice o 0 (take m (drop at p)) → x ≡ part p at n

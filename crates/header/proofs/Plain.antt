@@ -1,14 +1,13 @@
 -- Laws of the plain header: how it is put, piece after piece. Assumes nothing.
-use mathlib.Core.Path.{_≡_, refl, sym, ap, ap₂, _∙_}
-use mathlib.Core.Bool.{true, false, cond}
+use mathlib.Core.Path.{_≡_, refl, ap, ap₂, _∙_}
+use mathlib.Core.Bool.{true, false}
 use mathlib.Core.List.{List, [], _∷_, _++_}
 use Prim.Native.Nat.{ℕ, _+_, _≤_}
 use native.Mathlib.Omega.{arith}
-use lib.ListN.{length, length-append}
+use lib.ListN.{length}
 use Rattle.wire.specs.Parts.{splice}
 use Rattle.wire.specs.Numbers.{littleBytes, bigBytes}
 use Rattle.wire.proofs.Parts.{splice-then}
-use Rattle.wire.proofs.Numbers.{length-little, length-big}
 use Rattle.header.specs.declared.Fields.{Fields}
 use Rattle.header.specs.Kinds.{isShort}
 use Rattle.header.specs.Writing.{byte13, byte14, frontBytes, idBytes, headBytes, plain}

@@ -1,14 +1,14 @@
 -- Which refusal is given where two hold, and what follows where a header is not refused. Assumes nothing.
-use mathlib.Core.Path.{_≡_, refl, sym, ap, ap₂, _∙_}
+use mathlib.Core.Path.{_≡_, refl}
 use mathlib.Core.Bool.{Bool, true, false, cond, _&&_, _||_, not}
 use mathlib.Core.List.{List}
-use Prim.Native.Nat.{ℕ, _+_, _≤_, _<_}
+use Prim.Native.Nat.{ℕ, _+_, _≤_}
 use native.Mathlib.Omega.{arith}
 use lib.Dec.{eqb, ltb}
-use lib.ListN.{length, getD}
+use lib.ListN.{getD}
 use borrow.Author.Tests.{ltb-false, not-false}
 use Rattle.wire.specs.Parts.{part}
-use Rattle.wire.specs.Numbers.{big, bigAt}
+use Rattle.wire.specs.Numbers.{bigAt}
 use Rattle.wire.proofs.Parts.{getD-part, part-part}
 use Rattle.header.specs.declared.Fields.{Fields}
 use Rattle.header.specs.Kinds.{isKeyed, isShort, isListed, isVersion, longOf, needOf}

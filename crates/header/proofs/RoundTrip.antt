@@ -2,16 +2,16 @@
 use mathlib.Core.Path.{_≡_, refl, sym, ap, ap₂, _∙_}
 use mathlib.Core.Bool.{Bool, true, false, cond, _&&_, _||_, not, false≢true}
 use mathlib.Core.List.{List, [], _∷_, _++_}
-use mathlib.Core.Logic.{_⊎_, inl, inr, ⊎-elim}
-use Prim.Native.Nat.{ℕ, zero, suc, _+_, _*_, _/_, _%_, _^_, _≤_, _<_}
+use Prim.Native.Nat.{ℕ, zero, suc, _+_, _/_, _%_, _^_, _≤_, _<_}
 use native.Mathlib.Omega.{arith}
 use lib.Dec.{eqb, ltb}
 use lib.ListN.{length, getD, replicate, length-append}
-use borrow.Author.Tests.{eqb-true, eq-eqb, ne-eqb, ltb-false, lt-ltb, le-ltb}
+use borrow.Author.Tests.{eqb-true, ltb-false, le-ltb}
 use Rattle.wire.specs.Parts.{part, splice}
 use Rattle.wire.specs.Numbers.{Bytes, little, big, littleAt, bigAt, littleBytes, bigBytes}
-use Rattle.wire.proofs.Parts.{length-part, length-splice, getD-part, part-part, part-left, part-right, part-within, part-add, part-reads, splice-part}
-use Rattle.wire.proofs.Numbers.{length-little, length-big, little-back, big-back, littleAt-again, bigAt-again}
+use Rattle.wire.proofs.Tests.{or-neither}
+use Rattle.wire.proofs.Parts.{length-splice, getD-part, part-left, part-right, part-within, part-add, part-reads, splice-part}
+use Rattle.wire.proofs.Numbers.{little-back, big-back, littleAt-again, bigAt-again}
 use Rattle.keystream.specs.Chacha.{block}
 use Rattle.keystream.specs.Mask.{masked}
 use Rattle.keystream.proofs.Masks.{bytes-masked, bytes-block}
@@ -19,12 +19,12 @@ use Rattle.header.specs.declared.Long.{Long}
 use Rattle.header.specs.declared.Fields.{Fields}
 use Rattle.header.specs.declared.HeaderKind.the-variants.{SessionConfirmed, Data}
 use Rattle.header.specs.declared.Answer.the-variants.{Header}
-use Rattle.header.specs.Kinds.{isKeyed, isShort, isMiddle, isListed, isVersion, longOf, needOf}
+use Rattle.header.specs.Kinds.{isKeyed, isShort, isListed, isVersion, longOf, needOf}
 use Rattle.header.specs.Unmasking.{stream, nonce1, nonce2, front, rest, typeOf, unmasked}
 use Rattle.header.specs.Reading.{refusalOf, readNumber, longAt, longKind, kindOf, answerOf, leftBy}
 use Rattle.header.specs.Writing.{writeNumber, byte13, byte14, frontBytes, idBytes, headBytes, plain, written}
 use Rattle.header.specs.RoundTrip.{Fits, shown, ofLong, fieldsOf, NoOthers, WrittenIsRead, ReadIsWritten}
-use Rattle.header.proofs.Fronts.{length-front, part-front, front-twice, length-rest, rest-twice, part-rest}
+use Rattle.header.proofs.Fronts.{length-front, front-twice, length-rest, rest-twice, part-rest}
 use Rattle.header.proofs.Refusals.{refusal-front, Taken, read-taken, read-room, Given, write-given, need-enough, need-keyed}
 use Rattle.header.proofs.Plain.{length-frontBytes, length-idBytes}
 
@@ -136,15 +136,11 @@ module _ (f : Fields) (p : List ℕ) (h : 32 ≤ length p) where
 
 -- ---- what the fields are, by type
 
-or-false : (a b : Bool) → (a || b) ≡ false → (a ≡ false) × (b ≡ false)
-or-false true b e = absurd (false≢true (sym e))
-or-false false b e = (refl, e)
-
 -- bytes 13 and 14 of each type
 byte13-confirmed : (f : Fields) → eqb (f .kind) 2 ≡ true → (ltb 15 (f .fragment) || ltb 15 (f .count)) ≡ false → (byte13 f / 16 ≡ f .fragment) × (byte13 f % 16 ≡ f .count)
 unfolding byte13
 byte13-confirmed f e n =
-    let both = or-false (ltb 15 (f .fragment)) (ltb 15 (f .count)) n in
+    let both = or-neither (ltb 15 (f .fragment)) (ltb 15 (f .count)) n in
     let a : f .fragment ≤ 15 = ltb-false 15 (f .fragment) (both .0) in
     let b : f .count ≤ 15 = ltb-false 15 (f .count) (both .1) in
     rw e (omega arith, omega arith)

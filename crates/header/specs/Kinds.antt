@@ -1,5 +1,5 @@
 -- The header types of document 01, and what a type says of its header.
-use mathlib.Core.Bool.{Bool, cond, _||_, not}
+use mathlib.Core.Bool.{Bool, cond, _||_}
 use Prim.Native.Nat.{ℕ}
 use lib.Dec.{eqb}
 

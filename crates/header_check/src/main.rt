@@ -7,8 +7,6 @@ use header::Answer;
 use libc::STDIN_FILENO;
 use libc::STDOUT_FILENO;
 use std::num::wrapping_add_u64;
-ghost use Prim.Native.Nat.{_≤_};
-ghost use lib.ListN.{length};
 
 // Whether reading leaves the line's plain header, and writing the fields again the packet.
 fn reads_and_writes(p: fields::Packet, plain: &[u8]) -> u64 {

@@ -1,10 +1,10 @@
 // What a piece is to a slot: pure steps on the slot's head and the piece's label.
 use reassembly::Head;
 use reassembly::Label;
+use wire::usize_from_u8;
 ghost use mathlib.Core.Path.{_≡_};
 ghost use Prim.Native.Nat.{_+_, _<_, _≤_};
 ghost use Rattle.reassembly.specs.Judge.{pick, sameLabel, again, misfits, moreOf, grownBy, isWhole, newHead, noHead, isOld};
-ghost use Rattle.wire.specs.Parts.{same};
 
 fn pick8(c: bool, a: u8, b: u8) -> u8
     ensures { λ r. ⌜ r ≡ pick c a b ⌝ }
@@ -78,17 +78,11 @@ pub fn grown(h: Head, l: Label, n: u16) -> Head
     }
 }
 
-pub fn wide8(x: u8) -> usize
-    ensures { λ r. ⌜ (r ≡ x) × (r < 256) ⌝ }
-{
-    x as usize
-}
-
 // A last number is known, and as many numbers are held as there are up to it.
 pub fn is_whole(h: Head) -> bool
     ensures { λ r. ⌜ r ≡ isWhole h ⌝ }
 {
-    (0 < h.last) & (h.last < 128) & (wide8(h.count) == wide8(h.last) + 1)
+    (0 < h.last) & (h.last < 128) & (usize_from_u8(h.count) == usize_from_u8(h.last) + 1)
 }
 
 // The head of a message that is opened now, with nothing held.

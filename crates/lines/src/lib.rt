@@ -1,5 +1,4 @@
 // The lists that the check programs replay: a case a line, its fields parted by one space, bytes as hex digits.
-ghost use mathlib.Core.Path.{_≡_};
 ghost use Prim.Native.Nat.{_+_, _≤_, _<_};
 ghost use lib.ListN.{length};
 

@@ -7,13 +7,12 @@ use native.Mathlib.Omega.{arith}
 use lib.Dec.{ltb}
 use lib.ListN.{length}
 use borrow.Author.Tests.{ltb-true, ltb-false, lt-ltb}
-use Rattle.blocks.specs.declared.Block.{Block}
 use Rattle.blocks.specs.declared.Extent.{Extent}
 use Rattle.blocks.specs.declared.Extent.the-variants as End
 use Rattle.blocks.specs.declared.Read.the-variants as Got
 use Rattle.listing.specs.declared.Entry.{Entry}
 use Rattle.blocks.specs.Extent.{extentAt}
-use Rattle.blocks.specs.Reading.{blockAt, reading, readAt}
+use Rattle.blocks.specs.Reading.{blockAt, readAt}
 use Rattle.blocks.specs.Writing.{kindOf}
 use Rattle.listing.specs.Listing.{Listing, ok, no, entry, cons, onward, blocksFrom, blocksOf}
 use Rattle.listing.specs.Claims.{Readings, Stops, ListingIsReadings, StepsAreTheListing}

@@ -1,11 +1,10 @@
 // The three masks of a header. Both nonces are taken before anything changes: at 64 bytes they lie in the long header.
 ghost use mathlib.Core.Path.{_≡_};
 ghost use Prim.Native.Nat.{_+_, _≤_};
-ghost use lib.ListN.{length, getD, replicate};
+ghost use lib.ListN.{length, getD};
 ghost use Rattle.wire.specs.Parts.{part, splice};
-ghost use Rattle.keystream.specs.Mask.{masked};
 ghost use Rattle.header.specs.Kinds.{longOf};
-ghost use Rattle.header.specs.Unmasking.{stream, front, rest};
+ghost use Rattle.header.specs.Unmasking.{front, rest};
 use header_kinds::long_of;
 
 // Twelve bytes of a packet.

@@ -1,17 +1,15 @@
 -- Laws of what a block delivers. Assumes nothing.
 use mathlib.Core.Path.{_≡_, refl, sym, ap, _∙_}
-use mathlib.Core.Bool.{Bool, true, false, _||_, false≢true}
+use mathlib.Core.Bool.{Bool, false, false≢true}
 use mathlib.Core.List.{List, [], _∷_}
-use mathlib.Core.Logic.{inl, inr}
 use Prim.Native.Nat.{ℕ, _-_, _<_}
 use native.Mathlib.Omega.{arith}
-use lib.Dec.{eqb}
 use lib.ListN.{length, take, drop, drop-of-length-le, length-drop}
 use lib.Seq.{take-nil, take-all}
-use borrow.Author.Tests.{eq-eqb}
 use types.Run.{OneOf}
 use denote.Enum.Declared.{tagOf}
 use Rattle.wire.specs.Parts.{part}
+use Rattle.wire.proofs.Tests.{one-of}
 use Rattle.blocks.proofs.Block
 use Rattle.blocks.specs.declared.Block.{Block}
 use Rattle.blocks.specs.declared.Block.the-variants as Body
@@ -55,36 +53,21 @@ module _ (s rec room out : List ℕ) (second : ℕ) where
       ∙ ap (λ (y : After). rebuilt y i) (e ∙ ap (followOnCall rec room out (record { id = i; number = n; last = l; kind = 0; expires = 0 }) second) ep)
       ∙ sym (ap (deliveredBy s rec room out second) q)
 
--- a number that is one of some keys is found among them
-among : List ℕ → ℕ → Bool
-among [] x = false
-among (k ∷ ks) x = eqb x k || among ks x
-
-or-true : (a b : Bool) → b ≡ true → (a || b) ≡ true
-or-true true b e = refl
-or-true false b e = e
-
-one-among : (k : ℕ) (ks : List ℕ) (x : ℕ) → OneOf (k ∷ ks) x → among (k ∷ ks) x ≡ true
-unfolding among
-one-among k [] x e = rw (eq-eqb x k e) refl
-one-among k (j ∷ ks) x (inl e) = rw (eq-eqb x k e) refl
-one-among k (j ∷ ks) x (inr e) = or-true (eqb x k) (among (j ∷ ks) x) (one-among j ks x e)
-
 -- the variants that hold no message
 abbrev others : List ℕ
 others = 0 ∷ 1 ∷ 2 ∷ 6 ∷ 7 ∷ 8 ∷ 9 ∷ 10 ∷ 11 ∷ 12 ∷ 13 ∷ 14 ∷ 15 ∷ 16 ∷ 17 ∷ []
 
 pub other-left : (s rec room out : List ℕ) (second : ℕ) (r : Received) (b : Block) → OneOf others (tagOf Block.the-type b) → r ≡ nothing 0 0 → left r rec room out ≡ deliveredBy s rec room out second b
-unfolding deliveredBy among
+unfolding deliveredBy
 other-left s rec room out second r b h e = ap (λ (z : Received). left z rec room out) e ∙ go b h
   where
     go : (b : Block) → OneOf others (tagOf Block.the-type b) → left (nothing 0 0) rec room out ≡ deliveredBy s rec room out second b
     go (Body.DateTime t) h = refl
     go (Body.Options a b c d e f g i) h = refl
     go (Body.RouterInfo f g p) h = refl
-    go (Body.I2np k i x p) h = absurd (false≢true (one-among 0 (1 ∷ 2 ∷ 6 ∷ 7 ∷ 8 ∷ 9 ∷ 10 ∷ 11 ∷ 12 ∷ 13 ∷ 14 ∷ 15 ∷ 16 ∷ 17 ∷ []) 3 h))
-    go (Body.FirstFragment k i x p) h = absurd (false≢true (one-among 0 (1 ∷ 2 ∷ 6 ∷ 7 ∷ 8 ∷ 9 ∷ 10 ∷ 11 ∷ 12 ∷ 13 ∷ 14 ∷ 15 ∷ 16 ∷ 17 ∷ []) 4 h))
-    go (Body.FollowOnFragment n l i p) h = absurd (false≢true (one-among 0 (1 ∷ 2 ∷ 6 ∷ 7 ∷ 8 ∷ 9 ∷ 10 ∷ 11 ∷ 12 ∷ 13 ∷ 14 ∷ 15 ∷ 16 ∷ 17 ∷ []) 5 h))
+    go (Body.I2np k i x p) h = absurd (false≢true (one-of 0 (1 ∷ 2 ∷ 6 ∷ 7 ∷ 8 ∷ 9 ∷ 10 ∷ 11 ∷ 12 ∷ 13 ∷ 14 ∷ 15 ∷ 16 ∷ 17 ∷ []) 3 h))
+    go (Body.FirstFragment k i x p) h = absurd (false≢true (one-of 0 (1 ∷ 2 ∷ 6 ∷ 7 ∷ 8 ∷ 9 ∷ 10 ∷ 11 ∷ 12 ∷ 13 ∷ 14 ∷ 15 ∷ 16 ∷ 17 ∷ []) 4 h))
+    go (Body.FollowOnFragment n l i p) h = absurd (false≢true (one-of 0 (1 ∷ 2 ∷ 6 ∷ 7 ∷ 8 ∷ 9 ∷ 10 ∷ 11 ∷ 12 ∷ 13 ∷ 14 ∷ 15 ∷ 16 ∷ 17 ∷ []) 5 h))
     go (Body.Termination n r) h = refl
     go (Body.Ack t n p) h = refl
     go (Body.Address o p) h = refl

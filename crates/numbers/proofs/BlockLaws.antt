@@ -1,14 +1,14 @@
 -- Laws of a block by numbers. Assumes nothing.
 use mathlib.Core.Path.{_≡_, refl, sym, ap, _∙_}
-use mathlib.Core.Bool.{Bool, true, false, _&&_, _||_, false≢true}
+use mathlib.Core.Bool.{true, false, _&&_, false≢true, and-false}
 use mathlib.Core.List.{List, [], _∷_}
-use mathlib.Core.Logic.{inl, inr}
 use Prim.Native.Nat.{ℕ, _≤_}
 use lib.Dec.{eqb, leb}
 use lib.ListN.{length, getD}
-use borrow.Author.Tests.{eq-eqb, leb-true}
+use borrow.Author.Tests.{leb-true}
 use types.Run.{OneOf}
 use denote.Enum.Declared.{tagOf}
+use Rattle.wire.proofs.Tests.{and-both, one-of}
 use Rattle.blocks.proofs.Block
 use Rattle.blocks.specs.declared.Block.{Block}
 use Rattle.blocks.specs.declared.Block.the-variants as Body
@@ -27,26 +27,10 @@ row-is r b x p n q e w =
     ∙ ap (λ (y : Part). kindOf x ∷ n ∷ y .start ∷ y .len ∷ fieldsOf x) e
     ∙ ap (λ (y : Block). kindOf y ∷ n ∷ partOf b .start ∷ partOf b .len ∷ fieldsOf y) (sym q)
 
--- a number that is one of some keys is found among them
-among : List ℕ → ℕ → Bool
-among [] x = false
-among (k ∷ ks) x = eqb x k || among ks x
-
-or-true : (a b : Bool) → b ≡ true → (a || b) ≡ true
-or-true true b e = refl
-or-true false b e = e
-
-one-among : (k : ℕ) (ks : List ℕ) (x : ℕ) → OneOf (k ∷ ks) x → among (k ∷ ks) x ≡ true
-unfolding among
-one-among k [] x e = rw (eq-eqb x k e) refl
-one-among k (j ∷ ks) x (inl e) = rw (eq-eqb x k e) refl
-one-among k (j ∷ ks) x (inr e) = or-true (eqb x k) (among (j ∷ ks) x) (one-among j ks x e)
-
 -- only Options has type 1 and twelve bytes of fields
 pub is-options : (b : Block) → (eqb (kindOf b) 1 && eqb (fieldLength b) 12) ≡ true → OneOf (0 ∷ 2 ∷ 3 ∷ 4 ∷ 5 ∷ 6 ∷ 7 ∷ 8 ∷ 9 ∷ 10 ∷ 11 ∷ 12 ∷ 13 ∷ 14 ∷ 15 ∷ 16 ∷ 17 ∷ []) (tagOf Block.the-type b) → ⊥
-unfolding among
 is-options (Body.DateTime t) e h = false≢true e
-is-options (Body.Options a b c d i f g j) e h = false≢true (one-among 0 (2 ∷ 3 ∷ 4 ∷ 5 ∷ 6 ∷ 7 ∷ 8 ∷ 9 ∷ 10 ∷ 11 ∷ 12 ∷ 13 ∷ 14 ∷ 15 ∷ 16 ∷ 17 ∷ []) 1 h)
+is-options (Body.Options a b c d i f g j) e h = false≢true (one-of 0 (2 ∷ 3 ∷ 4 ∷ 5 ∷ 6 ∷ 7 ∷ 8 ∷ 9 ∷ 10 ∷ 11 ∷ 12 ∷ 13 ∷ 14 ∷ 15 ∷ 16 ∷ 17 ∷ []) 1 h)
 is-options (Body.RouterInfo f g p) e h = false≢true e
 is-options (Body.I2np k i x p) e h = false≢true e
 is-options (Body.FirstFragment k i x p) e h = false≢true e
@@ -63,29 +47,20 @@ is-options (Body.FirstPacketNumber n) e h = false≢true e
 is-options (Body.Congestion f) e h = false≢true e
 is-options (Body.Padding p) e h = false≢true e
 is-options (Body.Opaque k p) e h = false≢true (sym (and-false (eqb k 1)) ∙ e)
-  where
-    and-false : (x : Bool) → (x && false) ≡ false
-    and-false true = refl
-    and-false false = refl
-
--- both tests hold where their conjunction does
-both : (a b : Bool) → (a && b) ≡ true → (a ≡ true) × (b ≡ true)
-both true b e = (refl, e)
-both false b e = absurd (false≢true e)
 
 pub two-fit : (a x b y : ℕ) → (leb a x && leb b y) ≡ true → (a ≤ x) × (b ≤ y)
-two-fit a x b y e = let h = both (leb a x) (leb b y) e in (leb-true a x (h .0), leb-true b y (h .1))
+two-fit a x b y e = let h = and-both (leb a x) (leb b y) e in (leb-true a x (h .0), leb-true b y (h .1))
 
 pub three-fit : (a x b y c z : ℕ) → ((leb a x && leb b y) && leb c z) ≡ true → (a ≤ x) × (b ≤ y) × (c ≤ z)
-three-fit a x b y c z e = let h = both (leb a x && leb b y) (leb c z) e in let g = two-fit a x b y (h .0) in (g .0, g .1, leb-true c z (h .1))
+three-fit a x b y c z e = let h = and-both (leb a x && leb b y) (leb c z) e in let g = two-fit a x b y (h .0) in (g .0, g .1, leb-true c z (h .1))
 
 pub options-fit : (f : List ℕ) → optionsFit f ≡ true → (getD f 0 0 ≤ 255) × (getD f 1 0 ≤ 255) × (getD f 2 0 ≤ 255) × (getD f 3 0 ≤ 255) × (getD f 4 0 ≤ 65535) × (getD f 5 0 ≤ 65535) × (getD f 6 0 ≤ 65535) × (getD f 7 0 ≤ 65535)
 options-fit f e =
-    let h = both _ (leb (getD f 7 0) 65535) e in
-    let g = both _ (leb (getD f 6 0) 65535) (h .0) in
-    let k = both _ (leb (getD f 5 0) 65535) (g .0) in
-    let m = both _ (leb (getD f 4 0) 65535) (k .0) in
-    let n = both _ (leb (getD f 3 0) 255) (m .0) in
+    let h = and-both _ (leb (getD f 7 0) 65535) e in
+    let g = and-both _ (leb (getD f 6 0) 65535) (h .0) in
+    let k = and-both _ (leb (getD f 5 0) 65535) (g .0) in
+    let m = and-both _ (leb (getD f 4 0) 65535) (k .0) in
+    let n = and-both _ (leb (getD f 3 0) 255) (m .0) in
     let a = three-fit (getD f 0 0) 255 (getD f 1 0) 255 (getD f 2 0) 255 (n .0) in
     (a .0, a .1, a .2, leb-true _ _ (n .1), leb-true _ _ (m .1), leb-true _ _ (k .1), leb-true _ _ (g .1), leb-true _ _ (h .1))
 

@@ -9,7 +9,6 @@ use types.Run.{OneOf}
 use Rattle.header.specs.declared.Answer.{Answer}
 use Rattle.header.specs.declared.Answer.the-variants as Header
 use Rattle.blocks.specs.declared.Read.the-variants as Got
-use Rattle.blocks.specs.declared.Written.{Written}
 use Rattle.blocks.specs.declared.Written.the-variants as Wrote
 use Rattle.blocks.specs.Writing.{writing, roomAfter}
 use Rattle.blocks.proofs.Refused.{write-leaves, write-numbers}

@@ -37,7 +37,8 @@ demand1-calls =
       );
     }
 
-is-refusal : (n k : ℕ) → n ≡ suc k → Refuses n
+-- a number of 01's is a refusal
+pub is-refusal : (n k : ℕ) → n ≡ suc k → Refuses n
 is-refusal n k e z = omega arith
 
 abbrev lent : List ℕ

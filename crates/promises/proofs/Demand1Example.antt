@@ -31,12 +31,9 @@ use Rattle.acks.proofs.Cases.{case-j}
 use Rattle.reassembly.specs.declared.Label.{Label}
 use Rattle.reassembly.specs.Calls.{after, bare, isShort, badSize, offNumber, firstCall, followOnCall, renewal, renewed}
 use Rattle.messages.specs.Delivery.{left, nothing, delivered}
-use Rattle.promises.specs.Demand1.{Refuses, StoreRefuses}
+use Rattle.promises.specs.Demand1.{StoreRefuses}
 use Rattle.promises.proofs.Demand1.{demand1}
-
--- a number of 01's is a refusal
-is-refusal : (n k : ℕ) → n ≡ suc k → Refuses n
-is-refusal n k e z = omega arith
+use Rattle.promises.proofs.Demand1Calls.{is-refusal}
 
 store-refusal : (n k : ℕ) → n ≡ suc k → k < 59 → StoreRefuses n
 store-refusal n k e h = (λ z. omega arith, λ z. omega arith)

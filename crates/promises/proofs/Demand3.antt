@@ -1,10 +1,10 @@
 -- Demand 3, proved. Assumes nothing.
 use mathlib.Core.Path.{_≡_, refl, sym, ap, _∙_}
 use mathlib.Core.Logic.{_≢_}
-use mathlib.Core.Bool.{Bool, true, false, cond, not, _&&_, false≢true}
+use mathlib.Core.Bool.{Bool, true, false, cond, false≢true}
 use mathlib.Core.List.{List, [], _∷_}
 use mathlib.Core.Option.{Option, none, some}
-use Prim.Native.Nat.{ℕ, zero, suc, _+_, _-_, _≤_, _<_}
+use Prim.Native.Nat.{ℕ, zero, suc, _+_, _≤_, _<_}
 use native.Mathlib.Omega.{arith}
 use native.Mathlib.Decide.{ℕ-discrete}
 use lib.ListN.{length, getD, set, length-set, replicate, length-replicate, length-map, List·getD-map}
@@ -14,7 +14,7 @@ use Rattle.reassembly.specs.Store.{Message, Store, empty}
 use Rattle.promises.specs.Demand3.{Cut, Within, noCut, Event, deliver, tidy, Tally, noTally, allMarks, begun, done, isOpen, marked, untouched, start, note, count, Allowed, Orderly, Schedule, dueOne, due, act, saidOf, said, final, timesOne, times, Demand3}
 use Rattle.promises.proofs.Demand3Marks.{any-replicate, set-mark}
 use Rattle.promises.proofs.Demand3Places.{none≢some}
-use Rattle.promises.proofs.Demand3Invariant.{cutAt, tallyAt, Owned, Inv, delivered, tidied}
+use Rattle.promises.proofs.Demand3Invariant.{cutAt, tallyAt, closed-of, Owned, Inv, delivered, tidied}
 
 -- At the start nothing is open.
 start-at : (cs : List Cut) (c : ℕ) → tallyAt (start cs) c ≡ untouched (cutAt cs c)
@@ -55,14 +55,6 @@ start-inv cs =
     }
 
 -- Where every message is done, the store is empty.
-done-shut : (t : Tally) → done t ≡ true → isOpen t ≡ false
-unfolding isOpen
-done-shut t d = go (begun t)
-  where
-    go : (b : Bool) → (b && not (done t)) ≡ false
-    go true = rw d refl
-    go false = refl
-
 end-empty : (cs : List Cut) (ts : List Tally) (s : Store) → Inv cs ts s → ((c : ℕ) → c < length cs → done (tallyAt ts c) ≡ true) → s ≡ empty
 end-empty cs ts s v all = ext-getD none s empty (v .slots) (λ k h. free k (getD s k none) refl ∙ sym (empty-at k))
   where
@@ -70,7 +62,7 @@ end-empty cs ts s v all = ext-getD none s empty (v .slots) (λ k h. free k (getD
     free k none e = e
     free k (some m) e =
         let o : (c : ℕ) × Owned cs ts m c = v .owned k m e in
-        absurd (false≢true (sym (done-shut (tallyAt ts (o .0)) (all (o .0) (o .1 .inside))) ∙ o .1 .is-open))
+        absurd (false≢true (sym (closed-of (tallyAt ts (o .0)) (all (o .0) (o .1 .inside))) ∙ o .1 .is-open))
 
 module _ (cap : ℕ) (room : 65535 ≤ cap) (cs : List Cut) (within : (c : ℕ) → c < length cs → Within (cutAt cs c)) where
   one-event : (ts : List Tally) (s : Store) → Inv cs ts s → (e : Event) → Allowed cs ts e → Orderly cs (note ts e)

@@ -11,6 +11,7 @@ use lib.ListN.{length, getD, List·getD-eq-default}
 use lib.Dec.{eqb, ltb, leb}
 use borrow.Author.Tests.{ltb-true, ltb-false, leb-true, eqb-true, eq-eqb, not-true}
 use Rattle.wire.specs.Parts.{same}
+use Rattle.wire.proofs.Tests.{and-both}
 use Rattle.reassembly.specs.Store.{empty, total, idOf, numberOf, finalOf, bytesOf, findId, findFree, placeOf, messageOr, plus, badLength, badNumber, repeats, clashes, tooMuch, complete, wholeOf, tooShort, refused, answer, step, sweptOne, sweep}
 use Rattle.promises.specs.Demand3.{Cut, Within, noCut, Event, deliver, tidy, Tally, noTally, begun, done, isOpen, marked, untouched, start, note, count, Allowed, Orderly, Schedule, act, saidOf, said, Outcome}
 use Rattle.promises.specs.Demand3Calls.{secondOf, OutcomeOfCalls}
@@ -22,13 +23,9 @@ abbrev allBelow : ℕ → (ℕ → Bool) → Bool
 allBelow zero f = true
 allBelow (suc n) f = f n && allBelow n f
 
-both : (a b : Bool) → (a && b) ≡ true → (a ≡ true) × (b ≡ true)
-both true b e = (refl, e)
-both false b e = absurd (false≢true e)
-
 all-below : (n : ℕ) (f : ℕ → Bool) → allBelow n f ≡ true → (i : ℕ) → i < n → f i ≡ true
 all-below zero f e i h = absurd (not-suc-le-zero h)
-all-below (suc n) f e i h = go (ℕ-discrete i n) (both (f n) (allBelow n f) e) (λ d. all-below n f d i)
+all-below (suc n) f e i h = go (ℕ-discrete i n) (and-both (f n) (allBelow n f) e) (λ d. all-below n f d i)
   where
     go : Dec (i ≡ n) → (f n ≡ true) × (allBelow n f ≡ true) → (allBelow n f ≡ true → i < n → f i ≡ true) → f i ≡ true
     go (yes q) d ih = ap f q ∙ d .0
@@ -53,10 +50,10 @@ withinTest c =
 within-of : (c : Cut) → withinTest c ≡ true → Within c
 unfolding withinTest
 within-of c e =
-    let a = both _ _ e in
-    let b = both _ _ (a .0) in
-    let d = both _ _ (b .0) in
-    let f = both _ _ (d .0) in
+    let a = and-both _ _ e in
+    let b = and-both _ _ (a .0) in
+    let d = and-both _ _ (b .0) in
+    let f = and-both _ _ (d .0) in
     record {
       two = leb-true 2 (length (c .pieces)) (f .0);
       most = leb-true (length (c .pieces)) 128 (f .1);
@@ -82,8 +79,8 @@ allowedTest cs ts (tidy now) = allBelow (length ts) (λ c. implies (isOpen (getD
 allowed-of : (cs : List Cut) (ts : List Tally) (e : Event) → allowedTest cs ts e ≡ true → Allowed cs ts e
 unfolding allowedTest
 allowed-of cs ts (deliver c i now) h =
-    let a = both _ _ h in
-    let b = both _ _ (a .0) in
+    let a = and-both _ _ h in
+    let b = and-both _ _ (a .0) in
     (ltb-true c (length cs) (b .0), ltb-true i (length (getD cs c noCut .pieces)) (b .1), not-true (done (getD ts c noTally)) (a .1))
 allowed-of cs ts (tidy now) h =
     λ c o. ltb-true now (getD ts c noTally .since + 30)
@@ -99,7 +96,7 @@ orderlyTest cs ts = leb (count isOpen ts) 16 && allBelow (length ts) (λ a. allB
 orderly-of : (cs : List Cut) (ts : List Tally) → orderlyTest cs ts ≡ true → Orderly cs ts
 unfolding orderlyTest ownTest
 orderly-of cs ts h =
-    let d = both _ _ h in
+    let d = and-both _ _ h in
     record { at-most = leb-true (count isOpen ts) 16 (d .0); own-id = λ a b oa ob q. own a b oa ob q (row a oa (d .1)) }
   where
     row : (a : ℕ) → isOpen (getD ts a noTally) ≡ true → allBelow (length ts) (λ a. allBelow (length ts) (λ b. ownTest cs ts a b)) ≡ true → allBelow (length ts) (λ b. ownTest cs ts a b) ≡ true
@@ -121,8 +118,8 @@ schedule-of : (cs : List Cut) (es : List Event) (ts : List Tally) → scheduleTe
 unfolding scheduleTest
 schedule-of cs [] ts h = λ c k. all-below (length cs) (λ c. done (getD ts c noTally)) h c k
 schedule-of cs (e ∷ es) ts h =
-    let a : ((allowedTest cs ts e && orderlyTest cs (note ts e)) ≡ true) × (scheduleTest cs (note ts e) es ≡ true) = both _ _ h in
-    let b : (allowedTest cs ts e ≡ true) × (orderlyTest cs (note ts e) ≡ true) = both _ _ (a .0) in
+    let a : ((allowedTest cs ts e && orderlyTest cs (note ts e)) ≡ true) × (scheduleTest cs (note ts e) es ≡ true) = and-both _ _ h in
+    let b : (allowedTest cs ts e ≡ true) × (orderlyTest cs (note ts e) ≡ true) = and-both _ _ (a .0) in
     (allowed-of cs ts e (b .0), orderly-of cs (note ts e) (b .1), schedule-of cs es (note ts e) (a .1))
 
 -- Three messages, the third with the id of the first. They are mixed, with a repeat, pieces out of order and two sweeps.
@@ -180,8 +177,8 @@ allEarly (e ∷ es) = ltb (secondOf e) 18446744073709551616 && allEarly es
 
 early-at : (es : List Event) → allEarly es ≡ true → (n : ℕ) → secondOf (getD es n (tidy 0)) < 18446744073709551616
 early-at [] h n = omega arith
-early-at (e ∷ es) h zero = ltb-true (secondOf e) 18446744073709551616 (both (ltb (secondOf e) 18446744073709551616) (allEarly es) h .0)
-early-at (e ∷ es) h (suc n) = early-at es (both (ltb (secondOf e) 18446744073709551616) (allEarly es) h .1) n
+early-at (e ∷ es) h zero = ltb-true (secondOf e) 18446744073709551616 (and-both (ltb (secondOf e) 18446744073709551616) (allEarly es) h .0)
+early-at (e ∷ es) h (suc n) = early-at es (and-both (ltb (secondOf e) 18446744073709551616) (allEarly es) h .1) n
 
 pub example-calls : (outs : ℕ → List ℕ) → ((n : ℕ) → length (outs n) ≡ 65535) → (rec room : List ℕ) → 8576 ≤ length rec → 1048560 ≤ length room → OutcomeOfCalls threeCuts outs rec room mixture
 example-calls outs long rec room lr lm =

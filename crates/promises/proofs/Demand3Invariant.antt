@@ -5,7 +5,7 @@ use mathlib.Core.Logic.{_≢_}
 use mathlib.Core.Bool.{Bool, true, false, cond, not, _&&_, true≢false, false≢true}
 use mathlib.Core.List.{List}
 use mathlib.Core.Option.{Option, none, some}
-use Prim.Native.Nat.{ℕ, zero, suc, _+_, _-_, _≤_, _<_}
+use Prim.Native.Nat.{ℕ, zero, suc, _+_, _≤_, _<_}
 use native.Mathlib.Omega.{arith}
 use native.Mathlib.Decide.{ℕ-discrete}
 use lib.ListN.{length, getD, set, length-set}
@@ -15,7 +15,8 @@ use Rattle.reassembly.specs.Store.{Message, Store, findId, findFree, placeOf, m
 use Rattle.promises.specs.Demand3.{Cut, Within, pieceOf, cutFrom, noCut, deliver, tidy, Tally, noTally, anyMark, allMarks, begun, done, isOpen, marked, note, count, Allowed, Orderly, dueOne, act, saidOf}
 use Rattle.promises.proofs.Demand3Marks.{none-at, not-all-at, any-set, any-at, set-mark, count-set}
 use Rattle.promises.proofs.Demand3Rebuilt.{Holds, holds-new, holds-plus, id-piece}
-use Rattle.promises.proofs.Demand3Places.{isFull, none≢some, Hit, find-hit, find-miss, free-is, free-inside, sweep-same, answer-repeat, answer-kept, answer-finished}
+use Rattle.reassembly.proofs.Series.{free-none}
+use Rattle.promises.proofs.Demand3Places.{isFull, none≢some, Hit, find-hit, find-miss, free-inside, sweep-same, answer-repeat, answer-kept, answer-finished}
 
 abbrev pub cutAt : List Cut → ℕ → Cut
 cutAt cs c = getD cs c noCut
@@ -77,7 +78,7 @@ open-begun t d = go (begun t) refl
     go true e = rw d refl
     go false e = refl
 
-closed-of : (t : Tally) → done t ≡ true → isOpen t ≡ false
+pub closed-of : (t : Tally) → done t ≡ true → isOpen t ≡ false
 unfolding isOpen
 closed-of t d = go (begun t)
   where
@@ -173,11 +174,11 @@ module _ (cs : List Cut) (within : (c : ℕ) → c < length cs → Within (cutAt
         at = k;
         there = messageOr none (cutAt cs c .id) now;
         is-at = rw (miss, le-ltb (length s) (length s) (omega arith)) refl;
-        is-there = rw (free-is s) refl;
+        is-there = rw (free-none s) refl;
         inside = omega (arith, k-in, v .slots);
         holds = rw b (holds-new (cutAt cs c) (tallyAt ts c .marks) now none-marked);
         alone = λ l n e q. absurd (nobody l n e q);
-        full = rw (free-is s, b) refl;
+        full = rw (free-none s, b) refl;
       }
     where
       none-marked : anyMark (tallyAt ts c .marks) ≡ false

@@ -1,10 +1,9 @@
 -- The places of a store: where a piece goes, and the answer to a piece of a cut message there. Assumes nothing.
 use mathlib.Core.Path.{_≡_, refl, ap, _∙_}
-use mathlib.Core.Logic.{_≢_}
 use mathlib.Core.Bool.{Bool, true, false, cond}
 use mathlib.Core.List.{List, [], _∷_}
 use mathlib.Core.Option.{Option, none, some}
-use Prim.Native.Nat.{ℕ, zero, suc, _+_, _-_, _≤_, _<_}
+use Prim.Native.Nat.{ℕ, zero, suc, _+_, _≤_, _<_}
 use native.Mathlib.Nat.{not-suc-le-zero}
 use native.Mathlib.Omega.{arith}
 use lib.ListN.{length, getD, set, length-set}
@@ -49,12 +48,6 @@ unfolding findId
 find-miss id [] f = refl
 find-miss id (none ∷ s) f = ap suc (find-miss id s (λ k. f (suc k)))
 find-miss id (some x ∷ s) f = rw (ne-eqb (x .id) id (λ e. f 0 x refl e)) (ap suc (find-miss id s (λ k. f (suc k))))
-
-pub free-is : (s : Store) → getD s (findFree s) none ≡ none
-unfolding findFree
-free-is [] = refl
-free-is (none ∷ s) = refl
-free-is (some x ∷ s) = free-is s
 
 pub free-inside : (s : Store) → count isFull s < length s → findFree s < length s
 unfolding findFree

@@ -2,8 +2,8 @@
 pub mod Acks
 pub mod Twelve
 pub mod Demand1
-pub mod Demand1Example
 pub mod Demand1Calls
+pub mod Demand1Example
 pub mod Demand2
 pub mod Demand2Sent
 pub mod Demand3Marks

@@ -1,16 +1,12 @@
 -- When a message is old: the code's test, which does not add to the opening second, is the definition's. Assumes nothing.
 use mathlib.Core.Path.{_≡_, refl, sym, ap, _∙_}
-use mathlib.Core.Bool.{Bool, true, false, not, _&&_}
+use mathlib.Core.Bool.{Bool, true, false, not, _&&_, and-false}
 use Prim.Native.Nat.{ℕ, _+_, _-_, _≤_, _<_}
 use native.Mathlib.Omega.{arith}
 use lib.Dec.{eqb, leb}
 use borrow.Author.Tests.{lt-leb, le-leb, leb-true, leb-false}
 use Rattle.reassembly.specs.declared.Head.{Head}
 use Rattle.reassembly.specs.Judge.{isOld}
-
-and-false : (b : Bool) → (b && false) ≡ false
-and-false true = refl
-and-false false = refl
 
 pub old-early : (second : ℕ) (h : Head) → second < 30 → false ≡ isOld second h
 unfolding isOld

@@ -1,7 +1,6 @@
 -- The store's answer to a piece, read off the head, the entries and the pieces of its slot. Assumes nothing.
 use mathlib.Core.Path.{_≡_, refl, sym, ap, _∙_}
-use mathlib.Core.Logic.{_≢_}
-use mathlib.Core.Bool.{Bool, true, false, cond, _&&_, _||_, Bool·beq, true≢false}
+use mathlib.Core.Bool.{Bool, true, false, cond, _&&_, Bool·beq}
 use mathlib.Core.List.{List, []}
 use Prim.Native.Nat.{ℕ, suc, _+_, _≤_, _<_}
 use native.Mathlib.Omega.{arith}
@@ -9,6 +8,7 @@ use lib.Dec.{eqb, ltb}
 use lib.ListN.{length, getD, set, drop}
 use borrow.Author.Tests.{ltb-false}
 use Rattle.wire.specs.Parts.{same}
+use Rattle.wire.proofs.Tests.{or-neither}
 use Rattle.reassembly.specs.declared.Head.{Head}
 use Rattle.reassembly.specs.Store.{Piece, first, follow, idOf, numberOf, finalOf, bytesOf, isHeld, someHeld, total, plus, badLength, badNumber, repeats, clashes, tooMuch}
 use Rattle.reassembly.specs.Record.{pieceAt}
@@ -35,15 +35,11 @@ unfolding labelOf finalOf
 label-last (first id typ expires bytes) = refl
 label-last (follow id number final bytes) = refl
 
-or-false : (a b : Bool) → (a || b) ≡ false → (a ≡ false) × (b ≡ false)
-or-false true b e = absurd (true≢false e)
-or-false false b e = (refl, e)
-
 -- a number that is not refused is below 128
 pub number-small : (p : Piece) → badNumber p ≡ false → labelOf p .number < 128
 unfolding labelOf badNumber
 number-small (first id typ expires bytes) e = omega arith
-number-small (follow id number final bytes) e = let q : number ≤ 127 = ltb-false 127 number (or-false (eqb number 0) (ltb 127 number) e .1) in omega arith
+number-small (follow id number final bytes) e = let q : number ≤ 127 = ltb-false 127 number (or-neither (eqb number 0) (ltb 127 number) e .1) in omega arith
 
 -- ---- the tests of a piece whose slot has the head h
 
@@ -71,8 +67,8 @@ module _ (h : Head) (rec room : List ℕ) (i : ℕ) (f : Fine h rec room i) (lon
           → repeats (messageWith h rec room i) p ≡ (sameLabel h (labelOf p) && same (pieceAt rec room i (labelOf p .number)) (bytesOf p))
       go (first id typ expires bytes) g e = rw (e, table-at rec room i 0 (omega arith)) (swap₁ (same (pieceAt rec room i 0) bytes) (eqb (h .kind) typ) (eqb (h .expires) expires))
       go (follow id number final bytes) g e =
-          let z : eqb number 0 ≡ false = or-false (eqb number 0) (ltb 127 number) g .0 in
-          let s : number ≤ 127 = ltb-false 127 number (or-false (eqb number 0) (ltb 127 number) g .1) in
+          let z : eqb number 0 ≡ false = or-neither (eqb number 0) (ltb 127 number) g .0 in
+          let s : number ≤ 127 = ltb-false 127 number (or-neither (eqb number 0) (ltb 127 number) g .1) in
           rw (e, table-at rec room i number (omega arith), z) (swap₂ (same (pieceAt rec room i number) bytes) (Bool·beq (eqb (h .last) number) final))
 
   pub repeats-free : isHeld (getD (tableAt rec room i) (labelOf p .number) []) ≡ false → repeats (messageWith h rec room i) p ≡ false
@@ -111,7 +107,7 @@ unfolding plus messageWith grownBy labelOf bytesOf badNumber
 plus-is h rec room rec′ room′ i (first id typ expires bytes) g t =
     λ j. record { id = h .id; opened = h .opened; typ = typ; expires = expires; last = h .last; table = sym t j }
 plus-is h rec room rec′ room′ i (follow id number final bytes) g t =
-    let z : eqb number 0 ≡ false = or-false (eqb number 0) (ltb 127 number) g .0 in
+    let z : eqb number 0 ≡ false = or-neither (eqb number 0) (ltb 127 number) g .0 in
     λ j. record {
       id = h .id;
       opened = h .opened;

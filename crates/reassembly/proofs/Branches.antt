@@ -1,6 +1,6 @@
 -- Each branch of a call's definition, from the test that leads there. Assumes nothing.
 use mathlib.Core.Path.{_≡_, refl, sym, ap, _∙_}
-use mathlib.Core.Bool.{Bool, true, false, cond, not, _&&_, _||_, false≢true}
+use mathlib.Core.Bool.{Bool, true, false, cond, not, _&&_, false≢true}
 use mathlib.Core.List.{List}
 use Prim.Native.Nat.{ℕ, _+_, _*_, _≤_, _<_}
 use native.Mathlib.Omega.{arith}
@@ -9,6 +9,7 @@ use lib.ListN.{length}
 use borrow.Author.Tests.{lt-ltb, le-ltb, eq-eqb, ne-eqb, le-leb, lt-leb, ltb-true, ltb-false, eqb-false}
 use native.Mathlib.Numerals.{add-one}
 use Rattle.wire.specs.Parts.{splice, same}
+use Rattle.wire.proofs.Tests.{or-neither}
 use Rattle.reassembly.specs.declared.Head.{Head}
 use Rattle.reassembly.specs.declared.Entry.{Entry}
 use Rattle.reassembly.specs.declared.Label.{Label}
@@ -158,27 +159,23 @@ module _ (rec room out : List ℕ) (l : Label) (second : ℕ) (v : List ℕ) whe
   follow-taken x t s n q = rw (t, s, n) q
 
 -- what the tests that were passed say of the lengths and the number
-or-false : (a b : Bool) → (a || b) ≡ false → (a ≡ false) × (b ≡ false)
-or-false true b e = absurd (false≢true (sym e))
-or-false false b e = (refl, e)
-
 pub long-lent : (rec room : List ℕ) → isShort rec room ≡ false → (8576 ≤ length rec) × (1048560 ≤ length room)
 unfolding isShort
 long-lent rec room e =
-    let p = or-false (ltb (length rec) 8576) (ltb (length room) 1048560) e in
+    let p = or-neither (ltb (length rec) 8576) (ltb (length room) 1048560) e in
     (ltb-false (length rec) 8576 (p .0), ltb-false (length room) 1048560 (p .1))
 
 pub good-size : (n : ℕ) → badSize n ≡ false → (0 < n) × (n ≤ 1500)
 unfolding badSize
 good-size n e =
-    let p = or-false (eqb n 0) (ltb 1500 n) e in
+    let p = or-neither (eqb n 0) (ltb 1500 n) e in
     let z : n ≡ 0 → ⊥ = eqb-false n 0 (p .0) in
     (omega arith, ltb-false 1500 n (p .1))
 
 pub good-number : (k : ℕ) → offNumber k ≡ false → (0 < k) × (k ≤ 127)
 unfolding offNumber
 good-number k e =
-    let p = or-false (eqb k 0) (ltb 127 k) e in
+    let p = or-neither (eqb k 0) (ltb 127 k) e in
     let z : k ≡ 0 → ⊥ = eqb-false k 0 (p .0) in
     (omega arith, ltb-false 127 k (p .1))
 

@@ -1,6 +1,6 @@
 -- A slot with nothing held: what a message that is opened now stands for. Assumes nothing.
 use mathlib.Core.Path.{_≡_, refl, sym, ap, _∙_, subst}
-use mathlib.Core.Bool.{Bool, true, false, _&&_, false≢true}
+use mathlib.Core.Bool.{Bool, true, false, _&&_, false≢true, and-false}
 use mathlib.Core.List.{List, [], _∷_}
 use mathlib.Core.Option.{none}
 use Prim.Native.Nat.{ℕ, zero, suc, _+_, _≤_, _<_}
@@ -71,10 +71,6 @@ module _ (rec room : List ℕ) (i : ℕ) (rlong : 8576 ≤ length rec) (hi : i <
         last-small = omega arith;
         lastmost = λ z k e. absurd (false≢true (sym (none-held k) ∙ e));
       }
-
-and-false : (b : Bool) → (b && false) ≡ false
-and-false true = refl
-and-false false = refl
 
 pub fresh-fits : (l : Label) (second : ℕ) → misfits (newHead l second) l ≡ false
 unfolding misfits newHead

@@ -1,6 +1,5 @@
 -- A piece that is taken: record, room and assembly buffer afterwards stand for the store's step. Assumes nothing.
 use mathlib.Core.Path.{_≡_, refl, sym, ap, _∙_, subst}
-use mathlib.Core.Logic.{_≢_}
 use mathlib.Core.Bool.{Bool, true, false, cond, true≢false}
 use mathlib.Core.List.{List, []}
 use mathlib.Core.Option.{Option, none, some}
@@ -182,9 +181,6 @@ module _ (h : Head) (rec room : List ℕ) (i : ℕ) (f : Fine h rec room i) (rlo
     pub finished-agrees : Made rec room → isWhole g ≡ true → s ≡ stands rec room → Agrees out (finished rec room out i l g v) (answer (length out) s p i m)
     finished-agrees made w es = subst (λ (a : Answer). Agrees out (finished rec room out i l g v) a) (sym (answer-whole w)) (go (ltb (length out) (length (messageOf rec room i (l .number) v (g .last + 1)))) refl)
       where
-        r₁ : List ℕ
-        r₁ = withHead rec i noHead
-
         go : (b : Bool) → ltb (length out) (length (messageOf rec room i (l .number) v (g .last + 1))) ≡ b
             → Agrees out (finished rec room out i l g v) (cond (tooShort (length out) (plus m p)) (refused 56 s) (record { number = 60; out = some (wholeOf (plus m p)); store = set s i none }))
         go true e = unfold finished in rw (short-is, e, es) (refusal rec room out 56 made)

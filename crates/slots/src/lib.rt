@@ -1,5 +1,4 @@
 // The slots of a store, in lent bytes. Here: the slot of a message, found by its id, or the first that is free.
-pub mod record; // record.rt: the heads and entries, in lent bytes
 pub mod pieces; // pieces.rt: held pieces, and the message that they make
 
 use reassembly::Head;
@@ -23,7 +22,7 @@ pub fn find(rec: &[u8], id: u32) -> usize
 {
     let mut i = 0;
     while i < 16 {
-        if opened_as(record::load_head(rec, i), id) {
+        if opened_as(records::load_head(rec, i), id) {
             return i;
         }
         i += 1;
@@ -44,7 +43,7 @@ pub fn vacant(rec: &[u8]) -> usize
 {
     let mut i = 0;
     while i < 16 {
-        if unused(record::load_head(rec, i)) {
+        if unused(records::load_head(rec, i)) {
             return i;
         }
         i += 1;

@@ -1,17 +1,11 @@
 // Held pieces as parts of the room, and the message that they make.
-use crate::record;
+use wire::usize_from_u16;
 ghost use mathlib.Core.Path.{_≡_};
 ghost use Prim.Native.Nat.{_+_, _-_, _*_, _<_, _≤_};
 ghost use lib.ListN.{length};
 ghost use Rattle.wire.specs.Parts.{splice};
 ghost use Rattle.reassembly.specs.Record.{pieceAt};
 ghost use Rattle.reassembly.specs.Message.{pieceOr, messageOf};
-
-pub fn wide16(x: u16) -> usize
-    ensures { λ r. ⌜ (r ≡ x) × (r < 65536) ⌝ }
-{
-    x as usize
-}
 
 // As many of n bytes as a slot's room has from place on.
 fn cut(place: usize, n: usize) -> usize
@@ -26,9 +20,9 @@ pub fn piece<'a>(rec: &[u8], room: &'a [u8], i: usize, k: usize) -> &'a [u8]
     requires { ⌜ (8576 ≤ length (now rec)) × (1048560 ≤ length (now room)) × (i < 16) × (k < 128) ⌝ }
     ensures { λ r. ⌜ now r ≡ pieceAt (now (rec .entry)) (now (room .entry)) i k ⌝ }
 {
-    let e = record::load_entry(rec, i, k);
-    let p = wide16(e.place);
-    let n = cut(p, wide16(e.len));
+    let e = records::load_entry(rec, i, k);
+    let p = usize_from_u16(e.place);
+    let n = cut(p, usize_from_u16(e.len));
     let a = i * 65535;
     let b = a + 65535;
     let q = p + n;

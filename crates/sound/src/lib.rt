@@ -3,7 +3,7 @@ use blocks::Extent;
 use extents::at_least;
 use extents::extent_of;
 use extents::is_listed;
-use extents::wide;
+use wire::usize_from_u16;
 use wire_reads::be_u16;
 ghost use mathlib.Core.Path.{_≡_};
 ghost use Prim.Native.Nat.{_+_, _<_, _≤_};
@@ -60,9 +60,9 @@ pub fn body_length(kind: u8, size: u16) -> usize
     ensures { λ r. ⌜ (r ≡ bodyLength kind size) × (r < 65536) ⌝ }
 {
     if 21 < kind {
-        return wide(size);
+        return usize_from_u16(size);
     }
-    at_least(floor_of(kind), counted(kind, wide(size)))
+    at_least(floor_of(kind), counted(kind, usize_from_u16(size)))
 }
 
 // The tests by size alone.
@@ -108,7 +108,7 @@ pub fn quick_extent(payload: &[u8], at: usize) -> Extent
     if payload.len() - body < need {
         return extent_of(payload, at);
     }
-    if is_sound(payload, body, kind, wide(size)) {
+    if is_sound(payload, body, kind, usize_from_u16(size)) {
         return Extent::Ends {
             kind,
             size,

@@ -1,11 +1,10 @@
 // Pieces of messages, put together: the store of document 01.
 use reassembly::Label;
 use reassembly::Reply;
-use slots::record;
 use taking::bare;
 use taking::take;
 ghost use mathlib.Core.Path.{_≡_};
-ghost use mathlib.Core.Bool.{true, false};
+ghost use mathlib.Core.Bool.{false};
 ghost use Prim.Native.Nat.{_<_, _≤_};
 ghost use lib.ListN.{length};
 ghost use Rattle.reassembly.specs.Store.{first, follow, step};
@@ -101,8 +100,8 @@ fn sweep_one(rec: &mut [u8], i: usize, second: u64)
     requires { ⌜ (8576 ≤ length (now rec)) × (i < 16) ⌝ }
     ensures { λ _. ⌜ now (rec .exit) ≡ sweptAt second (now (rec .entry)) i ⌝ }
 {
-    if judge::is_old(record::load_head(rec, i), second) {
-        record::save_head(rec, i, judge::no_head());
+    if judge::is_old(records::load_head(rec, i), second) {
+        records::save_head(rec, i, judge::no_head());
         return;
     }
 }
@@ -138,6 +137,6 @@ pub fn new(rec: &mut [u8]) -> u8
     if rec.len() < 8576 {
         return 59;
     }
-    record::clear(rec, 0, 8576);
+    records::clear(rec, 0, 8576);
     0
 }

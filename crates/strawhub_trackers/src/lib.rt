@@ -1,7 +1,5 @@
 // C calls: the tracker, each call a few lines over a proved function. The tracker is 259 bytes that the caller keeps, the highest number in four and 255 marks.
 ghost use mathlib.Core.Path.{_≡_};
-ghost use mathlib.Core.Bool.{cond};
-ghost use lib.Dec.{eqb};
 ghost use lib.ListN.{length};
 ghost use Rattle.acks.specs.Recorded.{registerThere, recordAfter, duplicateThere, reportThere};
 ghost use Rattle.acks.specs.Expanding.{expandOf, listAfter};

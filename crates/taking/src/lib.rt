@@ -4,7 +4,8 @@ use reassembly::Head;
 use reassembly::Label;
 use reassembly::Reply;
 use slots::pieces;
-use slots::record;
+use wire::usize_from_u8;
+use wire::usize_from_u16;
 ghost use mathlib.Core.Path.{_≡_};
 ghost use mathlib.Core.List.{List};
 ghost use Prim.Native.Nat.{ℕ, _+_, _<_, _≤_};
@@ -29,8 +30,8 @@ fn keep(rec: &mut [u8], room: &mut [u8], i: usize, k: usize, total: u16, g: Head
     ensures { λ _. ⌜ now (room .exit) ≡ keptRoom (now (room .entry)) i total (now (bytes .entry)) ⌝ }
 {
     let n = bytes.len();
-    wire::copy_to(room, i * 65535 + pieces::wide16(total), bytes);
-    record::save_entry(
+    wire::copy_to(room, i * 65535 + usize_from_u16(total), bytes);
+    records::save_entry(
         rec,
         i,
         k,
@@ -39,7 +40,7 @@ fn keep(rec: &mut [u8], room: &mut [u8], i: usize, k: usize, total: u16, g: Head
             len: n as u16,
         },
     );
-    record::save_head(rec, i, g);
+    records::save_head(rec, i, g);
 }
 
 // The message of slot i, finished by the piece: 56, or it is put to the start of out and its slot is free.
@@ -55,14 +56,14 @@ fn finish(
     requires { ⌜ (8576 ≤ length (now rec)) × (1048560 ≤ length (now room)) × (i < 16) × (g .last < 128) × (length (now bytes) ≤ 1500) ⌝ }
     ensures { λ r. ⌜ after r (now (rec .exit)) (now (room .entry)) (now (out .exit)) ≡ finished (now (rec .entry)) (now (room .entry)) (now (out .entry)) i l g (now (bytes .entry)) ⌝ }
 {
-    let k = judge::wide8(l.number);
-    let last = judge::wide8(g.last);
+    let k = usize_from_u8(l.number);
+    let last = usize_from_u8(g.last);
     let n = pieces::size(rec, room, i, k, bytes, last);
     if out.len() < n {
         return bare(56);
     }
     pieces::assemble(rec, room, out, i, k, bytes, last);
-    record::save_head(rec, i, judge::no_head());
+    records::save_head(rec, i, judge::no_head());
     Reply {
         number: 60,
         kind: g.kind,
@@ -85,14 +86,14 @@ fn put(
     ensures { λ r. ⌜ after r (now (rec .exit)) (now (room .exit)) (now (out .exit)) ≡ putIn (now (rec .entry)) (now (room .entry)) (now (out .entry)) i h l (now (bytes .entry)) ⌝ }
 {
     let n = bytes.len();
-    if 65535 < pieces::wide16(h.total) + n {
+    if 65535 < usize_from_u16(h.total) + n {
         return bare(53);
     }
     let g = judge::grown(h, l, n as u16);
     if judge::is_whole(g) {
         return finish(rec, room, out, i, l, g, bytes);
     }
-    keep(rec, room, i, judge::wide8(l.number), h.total, g, bytes);
+    keep(rec, room, i, usize_from_u8(l.number), h.total, g, bytes);
     bare(0)
 }
 
@@ -101,9 +102,9 @@ fn add(rec: &mut [u8], room: &mut [u8], out: &mut [u8], i: usize, l: Label, byte
     requires { ⌜ (8576 ≤ length (now rec)) × (1048560 ≤ length (now room)) × (i < 16) × (l .number < 128) × (length (now bytes) ≤ 1500) ⌝ }
     ensures { λ r. ⌜ after r (now (rec .exit)) (now (room .exit)) (now (out .exit)) ≡ added (now (rec .entry)) (now (room .entry)) (now (out .entry)) i l (now (bytes .entry)) ⌝ }
 {
-    let h = record::load_head(rec, i);
-    let k = judge::wide8(l.number);
-    let e = record::load_entry(rec, i, k);
+    let h = records::load_head(rec, i);
+    let k = usize_from_u8(l.number);
+    let e = records::load_entry(rec, i, k);
     if e.len != 0 {
         return bare(judge::again(h, l, pieces::piece(rec, room, i, k), bytes));
     }
@@ -119,9 +120,9 @@ fn open_in(rec: &mut [u8], room: &mut [u8], i: usize, l: Label, second: u64, byt
     ensures { λ _. ⌜ ((out : List ℕ) → after (bare 0) (now (rec .exit)) (now (room .exit)) out ≡ openedIn (now (rec .entry)) (now (room .entry)) out i l second (now (bytes .entry))) ⌝ }
 {
     let n = bytes.len();
-    record::clear_entries(rec, i);
+    records::clear_entries(rec, i);
     let g = judge::grown(judge::new_head(l, second), l, n as u16);
-    keep(rec, room, i, judge::wide8(l.number), 0, g, bytes);
+    keep(rec, room, i, usize_from_u8(l.number), 0, g, bytes);
 }
 
 // A piece of a message that is not open: 52, or it is kept in the first free slot.

@@ -1,6 +1,8 @@
 -- The laws that the crates above cite.
+pub mod Tests
 pub mod Parts
 pub mod Same
 pub mod Numbers
 pub mod Copying
 pub mod Lent
+pub mod Slices

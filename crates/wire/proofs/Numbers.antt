@@ -1,15 +1,25 @@
 -- Laws of numbers in bytes, each once over the width. Assumes nothing.
-use mathlib.Core.Path.{_≡_, refl, sym, ap, ap₂, _∙_, subst}
+use mathlib.Core.Path.{_≡_, refl, sym, ap, _∙_, subst}
 use mathlib.Core.List.{List, [], _∷_, _++_, reverse, reverse-append, reverse-reverse, reverse-cons}
-use Prim.Native.Nat.{ℕ, zero, suc, _+_, _-_, _*_, _/_, _%_, _^_, _≤_, _<_}
+use Prim.Native.Nat.{ℕ, zero, suc, _+_, _*_, _/_, _%_, _^_, _≤_, _<_}
 use native.Mathlib.Nat.{pow-suc, add-mul, mul-assoc, mul-one, div-lt-iff-lt-mul, zero-add, suc-add, add-comm, one-le-pow, div-one, div-div-eq-div-mul, pow-succ'}
 use native.Mathlib.Omega.{arith}
 use lib.Arith.{mod-mul, digits-lt}
-use lib.ListN.{length, getD, take, drop, length-append, length-reverse}
+use lib.ListN.{length, getD, take, drop, length-reverse}
 use lib.Seq.{getD-drop}
 use Rattle.wire.specs.Parts.{part}
 use Rattle.wire.specs.Numbers.{Bytes, little, big, littleBytes, bigBytes, littleAt, bigAt}
 use Rattle.wire.proofs.Parts.{reads, part-add, part-reads, length-part}
+
+-- ---- a number at a place is that of the part there
+
+pub littleAt-is : (n : ℕ) (l : List ℕ) (o : ℕ) → littleAt n l o ≡ little (part l o n)
+unfolding littleAt
+littleAt-is n l o = refl
+
+pub bigAt-is : (n : ℕ) (l : List ℕ) (o : ℕ) → bigAt n l o ≡ big (part l o n)
+unfolding bigAt
+bigAt-is n l o = refl
 
 -- ---- lists of bytes
 
@@ -45,10 +55,6 @@ unfolding littleBytes
 bytes-little zero x i = omega arith
 bytes-little (suc n) x zero = omega arith
 bytes-little (suc n) x (suc i) = bytes-little n (x / 256) i
-
-pub bytes-big : (n x : ℕ) → Bytes (bigBytes n x)
-unfolding bigBytes
-bytes-big n x = bytes-reverse (littleBytes n x) (bytes-little n x)
 
 -- ---- lengths and bounds
 

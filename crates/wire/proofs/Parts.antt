@@ -1,7 +1,7 @@
 -- Laws of parts and splices, each once over place and length. Assumes nothing.
 use mathlib.Core.Path.{_≡_, refl, sym, ap, _∙_}
 use mathlib.Core.List.{List, [], _∷_, _++_, append-assoc, append-nil}
-use mathlib.Core.Logic.{_⊎_, inl, inr, ⊎-elim}
+use mathlib.Core.Logic.{_⊎_, ⊎-elim}
 use Prim.Native.Nat.{ℕ, zero, suc, _+_, _-_, _≤_, _<_}
 use native.Mathlib.Nat.{sub-zero, zero-sub, suc-sub-suc}
 use native.Mathlib.Omega.{arith}
@@ -22,6 +22,15 @@ module _ {A : Type 0} where
   drop-take (suc k) zero l = rw zero-sub
   drop-take (suc k) (suc n) [] = sym (take-nil (suc n - suc k))
   drop-take (suc k) (suc n) (x ∷ l) = rw suc-sub-suc (drop-take k n l)
+
+  -- a part is what a slice of its range shows
+  pub part-is : (l : List A) (o n : ℕ) → take n (drop o l) ≡ part l o n
+  unfolding part
+  part-is l o n = refl
+
+  pub splice-is : (l : List A) (o : ℕ) (v : List A) → splice l o v ≡ take o l ++ v ++ drop (o + length v) l
+  unfolding splice
+  splice-is l o v = refl
 
   pub length-part : (l : List A) (o n : ℕ) → o + n ≤ length l → length (part l o n) ≡ n
   unfolding part
@@ -183,11 +192,6 @@ module _ {A : Type 0} where
       ∙ ap (λ (z : List A). take o l ++ (take n (drop o l) ++ z)) (sym (drop-drop n o l))
       ∙ ap (λ (z : List A). take o l ++ z) (take-append-drop n (drop o l))
       ∙ take-append-drop o l
-
-  -- the whole, from what stands before a splice, in it and after it
-  pub splice-parts : (l : List A) (o : ℕ) (v : List A) → splice l o v ≡ part l 0 o ++ (v ++ drop (o + length v) l)
-  unfolding splice part
-  splice-parts l o v = append-assoc (take o l) v (drop (o + length v) l)
 
   -- what is put in the place of all
   pub splice-all : (l v : List A) → length v ≡ length l → splice l 0 v ≡ v

@@ -1,6 +1,6 @@
-// Bytes copied and compared; what parts of a list and numbers in bytes are, and the laws that all crates share.
+// Bytes copied and compared, small numbers as lengths; what parts of a list and numbers in bytes are, and the laws that all crates share.
 ghost use mathlib.Core.Path.{_≡_};
-ghost use Prim.Native.Nat.{_+_, _≤_};
+ghost use Prim.Native.Nat.{_+_, _<_, _≤_};
 ghost use lib.ListN.{length};
 ghost use Rattle.wire.specs.Parts.{splice, same};
 
@@ -32,4 +32,16 @@ pub fn same_bytes(a: &[u8], b: &[u8]) -> bool
         i += 1;
     }
     ok
+}
+
+pub fn usize_from_u8(byte: u8) -> usize
+    ensures { λ r. ⌜ (r ≡ byte) × (r < 256) ⌝ }
+{
+    byte as usize
+}
+
+pub fn usize_from_u16(word: u16) -> usize
+    ensures { λ r. ⌜ (r ≡ word) × (r < 65536) ⌝ }
+{
+    word as usize
 }

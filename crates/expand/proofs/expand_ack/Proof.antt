@@ -1,8 +1,7 @@
 use mathlib.Core.Path.{ap, _∙_}
-use Prim.Native.Nat.{_-_}
 use lib.ListN.{length}
 use Rattle.acks.specs.Expanding.{expandOf, listAfter}
-use Rattle.acks.proofs.Lists.{part-cut-to}
+use Rattle.wire.proofs.Slices.{part-cut-to}
 use borrow.Author.Needs.{needs}
 use Rattle.expand.proofs.expand_ack.Statement.{statement}
 use Rattle.expand.proofs.expand_ack.Tie as tie

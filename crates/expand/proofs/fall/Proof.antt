@@ -5,7 +5,7 @@ use borrow.Author.Needs.{needs}
 use native.Mathlib.Omega.{arith}
 use Rattle.acks.specs.Window.{falling}
 use Rattle.wire.specs.Parts.{splice}
-use Rattle.acks.proofs.Lists.{splice-none}
+use Rattle.wire.proofs.Slices.{splice-none}
 use Rattle.acks.proofs.Filling.{falls-more}
 use Rattle.expand.proofs.fall.Statement.{statement}
 use Rattle.expand.proofs.fall.Tie as tie

@@ -1,6 +1,6 @@
 use Prim.Native.Nat.{_<_, _+_, _-_}
 use mathlib.Core.Path.{sym, ap}
-use mathlib.Core.Bool.{true, false, false≢true}
+use mathlib.Core.Bool.{false≢true}
 use lib.ListN.{length}
 use lib.Dec.{leb}
 use borrow.Author.Needs.{needs}

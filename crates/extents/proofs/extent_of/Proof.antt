@@ -28,8 +28,8 @@ be-u16-requires c κs = search needs
 add-taken-at : tie.Need-add-taken-at
 add-taken-at c = search needs
 
-wide-requires : tie.Need-wide-requires
-wide-requires c κs = search needs
+usize-from-u16-requires : tie.Need-usize-from-u16-requires
+usize-from-u16-requires c κs = search needs
 
 taken-at-requires : tie.Need-taken-at-requires
 taken-at-requires c κs = search needs
@@ -41,16 +41,16 @@ add-t14 : tie.Need-add-t14
 add-t14 c = search needs
 
 add-t15 : tie.Need-add-t15
-add-t15 c = let a = c .before .before .before .before .before .before .before .before .before .before .args in omega (arith, taken-holds (a .payload .now) (a .at + 3) (c .before .before .before .before .wide .result) (kindAt (a .payload .now) (a .at)) _ (sym (c .before .before .before .taken-at .ensures) ∙ c .before .count .given .1))
+add-t15 c = let a = c .before .before .before .before .before .before .before .before .before .before .args in omega (arith, taken-holds (a .payload .now) (a .at + 3) (c .before .before .before .before .usize-from-u16 .result) (kindAt (a .payload .now) (a .at)) _ (sym (c .before .before .before .taken-at .ensures) ∙ c .before .count .given .1))
 
 enum-known-number : tie.Need-enum-known-number
 enum-known-number c = search needs
 
 returns-3 : tie.Need-returns-3
-returns-3 c = let a = c .before .before .before .before .before .before .before .before .before .before .args in ended (a .payload .now) (a .at) (c .before .before .before .before .before .be-u16 .result) _ (omega arith) (c .before .before .before .before .before .be-u16 .ensures) (ap (takenAt (a .payload .now) (a .at + 3) (kindAt (a .payload .now) (a .at))) (sym (c .before .before .before .before .wide .ensures .0)) ∙ sym (c .before .before .before .taken-at .ensures) ∙ c .before .count .given .1)
+returns-3 c = let a = c .before .before .before .before .before .before .before .before .before .before .args in ended (a .payload .now) (a .at) (c .before .before .before .before .before .be-u16 .result) _ (omega arith) (c .before .before .before .before .before .be-u16 .ensures) (ap (takenAt (a .payload .now) (a .at + 3) (kindAt (a .payload .now) (a .at))) (sym (c .before .before .before .before .usize-from-u16 .ensures .0)) ∙ sym (c .before .before .before .taken-at .ensures) ∙ c .before .count .given .1)
 
 returns-4 : tie.Need-returns-4
-returns-4 c = let a = c .before .before .before .before .before .before .before .before .before .before .args in ended (a .payload .now) (a .at) (c .before .before .before .before .before .be-u16 .result) _ (omega arith) (c .before .before .before .before .before .be-u16 .ensures) (ap (takenAt (a .payload .now) (a .at + 3) (kindAt (a .payload .now) (a .at))) (sym (c .before .before .before .before .wide .ensures .0)) ∙ sym (c .before .before .before .taken-at .ensures) ∙ c .before .number .given .1)
+returns-4 c = let a = c .before .before .before .before .before .before .before .before .before .before .args in ended (a .payload .now) (a .at) (c .before .before .before .before .before .be-u16 .result) _ (omega arith) (c .before .before .before .before .before .be-u16 .ensures) (ap (takenAt (a .payload .now) (a .at + 3) (kindAt (a .payload .now) (a .at))) (sym (c .before .before .before .before .usize-from-u16 .ensures .0)) ∙ sym (c .before .before .before .taken-at .ensures) ∙ c .before .number .given .1)
 
 pub extent-of-spec : {M : Type 1} → statement M
 extent-of-spec =
@@ -63,7 +63,7 @@ extent-of-spec =
     add-be-u16
     be-u16-requires
     add-taken-at
-    wide-requires
+    usize-from-u16-requires
     taken-at-requires
     enum-known-count
     add-t14

@@ -4,7 +4,7 @@ use lib.ListN.{length}
 use Rattle.blocks.specs.declared.Block.{Block}
 use Rattle.wire.specs.Parts.{splice}
 use Rattle.blocks.specs.Writing.{fieldLength, fieldBytes}
-use Rattle.blocks.proofs.Puts.{puts-none}
+use Rattle.wire.proofs.Slices.{splice-none}
 use borrow.Author.Needs.{needs}
 use Rattle.fields.proofs.put_fields.Statement.{statement}
 use Rattle.fields.proofs.put_fields.Tie as tie
@@ -157,7 +157,7 @@ returns-9 : tie.Need-returns-9
 returns-9 c = let a = c .before .before .before .before .before .before .before .before .args in c .before .before .put-u16 .ensures ∙ sym (ap (λ (b : Block). splice (a .room .now) 3 (fieldBytes b)) (c .before .before .before .before .before .block9 .given .1))
 
 returns-10 : tie.Need-returns-10
-returns-10 c = let a = c .before .before .before .args in puts-none (a .room .now) 3 ∙ sym (ap (λ (b : Block). splice (a .room .now) 3 (fieldBytes b)) (c .enum-told .given .1))
+returns-10 c = let a = c .before .before .before .args in sym (splice-none (a .room .now) 3) ∙ sym (ap (λ (b : Block). splice (a .room .now) 3 (fieldBytes b)) (c .enum-told .given .1))
 
 same-length-10 : tie.Need-same-length-10
 same-length-10 c = search needs
@@ -172,10 +172,10 @@ returns-12 : tie.Need-returns-12
 returns-12 c = let a = c .before .before .before .before .before .before .before .before .args in c .before .before .put-new-token .ensures ∙ sym (ap (λ (b : Block). splice (a .room .now) 3 (fieldBytes b)) (c .before .before .before .before .before .block11 .given .1))
 
 returns-13 : tie.Need-returns-13
-returns-13 c = let a = c .before .before .before .args in puts-none (a .room .now) 3 ∙ sym (ap (λ (b : Block). splice (a .room .now) 3 (fieldBytes b)) (c .enum-told2 .given .1))
+returns-13 c = let a = c .before .before .before .args in sym (splice-none (a .room .now) 3) ∙ sym (ap (λ (b : Block). splice (a .room .now) 3 (fieldBytes b)) (c .enum-told2 .given .1))
 
 returns-14 : tie.Need-returns-14
-returns-14 c = let a = c .before .before .before .args in puts-none (a .room .now) 3 ∙ sym (ap (λ (b : Block). splice (a .room .now) 3 (fieldBytes b)) (c .enum-told3 .given .1))
+returns-14 c = let a = c .before .before .before .args in sym (splice-none (a .room .now) 3) ∙ sym (ap (λ (b : Block). splice (a .room .now) 3 (fieldBytes b)) (c .enum-told3 .given .1))
 
 same-length-12 : tie.Need-same-length-12
 same-length-12 c = search needs
@@ -190,10 +190,10 @@ returns-16 : tie.Need-returns-16
 returns-16 c = let a = c .before .before .before .before .before .before .before .before .args in c .before .before .put-u8 .ensures ∙ sym (ap (λ (b : Block). splice (a .room .now) 3 (fieldBytes b)) (c .before .before .before .before .before .block13 .given .1))
 
 returns-17 : tie.Need-returns-17
-returns-17 c = let a = c .before .before .before .args in puts-none (a .room .now) 3 ∙ sym (ap (λ (b : Block). splice (a .room .now) 3 (fieldBytes b)) (c .enum-told4 .given .1))
+returns-17 c = let a = c .before .before .before .args in sym (splice-none (a .room .now) 3) ∙ sym (ap (λ (b : Block). splice (a .room .now) 3 (fieldBytes b)) (c .enum-told4 .given .1))
 
 returns-18 : tie.Need-returns-18
-returns-18 c = let a = c .before .before .before .args in puts-none (a .room .now) 3 ∙ sym (ap (λ (b : Block). splice (a .room .now) 3 (fieldBytes b)) (c .enum-told5 .given .1))
+returns-18 c = let a = c .before .before .before .args in sym (splice-none (a .room .now) 3) ∙ sym (ap (λ (b : Block). splice (a .room .now) 3 (fieldBytes b)) (c .enum-told5 .given .1))
 
 pub put-fields-spec : {M : Type 1} → statement M
 put-fields-spec =

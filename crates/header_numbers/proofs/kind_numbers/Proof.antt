@@ -1,4 +1,4 @@
-use mathlib.Core.Path.{_≡_, ap, sym, _∙_}
+use mathlib.Core.Path.{ap, sym, _∙_}
 use Rattle.numbers.specs.Headers.{kindNumbers}
 use borrow.Author.Needs.{needs}
 use Rattle.header_numbers.proofs.kind_numbers.Statement.{statement}

@@ -1,7 +1,5 @@
 use mathlib.Core.Path.{_≡_, ap, _∙_}
-use Prim.Native.Nat.{ℕ, _+_}
 use native.Mathlib.Omega.{arith}
-use lib.ListN.{length}
 use Rattle.blocks.specs.Extent.{kindAt, sizeAt}
 use Rattle.blocks.specs.Sound.{bodyLength}
 use Rattle.listing.proofs.Walk.{no-step, step-over}

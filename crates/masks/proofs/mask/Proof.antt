@@ -1,5 +1,4 @@
-use mathlib.Core.Path.{ap, sym, _∙_}
-use mathlib.Core.List.{List}
+use mathlib.Core.Path.{ap, _∙_}
 use Rattle.header.specs.Unmasking.{front}
 use Rattle.header.proofs.Fronts.{front-kept}
 use borrow.Author.Needs.{needs}

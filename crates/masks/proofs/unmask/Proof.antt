@@ -1,6 +1,4 @@
 use mathlib.Core.Path.{ap, _∙_}
-use mathlib.Core.List.{List}
-use Prim.Native.Nat.{ℕ}
 use lib.ListN.{getD}
 use Rattle.header.specs.Unmasking.{rest}
 use borrow.Author.Needs.{needs}

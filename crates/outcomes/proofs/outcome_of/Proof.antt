@@ -1,4 +1,4 @@
-use mathlib.Core.Path.{_≡_, refl, sym, ap, _∙_}
+use mathlib.Core.Path.{sym, ap}
 use Rattle.outcomes.specs.Outcomes.{written}
 use borrow.Author.Needs.{needs}
 use Rattle.outcomes.proofs.outcome_of.Statement.{statement}

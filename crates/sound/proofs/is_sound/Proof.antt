@@ -1,10 +1,10 @@
 use mathlib.Core.Path.{_≡_, sym, _∙_}
 use mathlib.Core.Bool.{true, false, _||_}
-use Prim.Native.Nat.{_+_, _≤_}
+use Prim.Native.Nat.{_+_}
 use native.Mathlib.Omega.{arith}
 use lib.Dec.{eqb}
 use borrow.Author.Tests.{le-leb, lt-leb}
-use Rattle.blocks.specs.Sound.{bodyLength, sound}
+use Rattle.blocks.specs.Sound.{sound}
 use Rattle.blocks.proofs.Soundness.{message-length}
 use borrow.Author.Needs.{needs}
 use Rattle.sound.proofs.is_sound.Statement.{statement}

@@ -1,6 +1,6 @@
 use mathlib.Core.Path.{_≡_, sym, ap, _∙_}
 use mathlib.Core.Bool.{true}
-use Prim.Native.Nat.{ℕ, _+_, _-_, _≤_}
+use Prim.Native.Nat.{_+_, _-_, _≤_}
 use native.Mathlib.Omega.{arith}
 use lib.ListN.{length}
 use Rattle.blocks.specs.declared.Taken.the-variants as Take
@@ -51,11 +51,11 @@ extent-of-requires-3 c κs = search needs
 returns-3 : tie.Need-returns-3
 returns-3 c = search needs
 
-wide-requires : tie.Need-wide-requires
-wide-requires c κs = search needs
+usize-from-u16-requires : tie.Need-usize-from-u16-requires
+usize-from-u16-requires c κs = search needs
 
 is-sound-requires : tie.Need-is-sound-requires
-is-sound-requires c κs = let a = c .before .before .before .before .before .before .before .before .args in let n : c .before .before .body-length .result ≡ bodyLength (kindAt (a .payload .now) (a .at)) (c .wide .result) = c .before .before .body-length .ensures .0 ∙ ap (bodyLength (kindAt (a .payload .now) (a .at))) (sym (c .wide .ensures .0)) in (omega (arith, n, c .before .if3 .left), c .wide .ensures .1)
+is-sound-requires c κs = let a = c .before .before .before .before .before .before .before .before .args in let n : c .before .before .body-length .result ≡ bodyLength (kindAt (a .payload .now) (a .at)) (c .usize-from-u16 .result) = c .before .before .body-length .ensures .0 ∙ ap (bodyLength (kindAt (a .payload .now) (a .at))) (sym (c .usize-from-u16 .ensures .0)) in (omega (arith, n, c .before .if3 .left), c .usize-from-u16 .ensures .1)
 
 add-t13 : tie.Need-add-t13
 add-t13 c = search needs
@@ -67,7 +67,7 @@ returns-4 c =
     let z = c .before .before .before .before .before .be-u16 .result in
     let n : c .before .before .before .before .body-length .result ≡ bodyLength k z = c .before .before .before .before .body-length .ensures .0 in
     let fits : bodyLength k z ≤ length (a .payload .now) - (a .at + 3) = omega (arith, n, c .before .before .before .if3 .left) in
-    let t : sound (a .payload .now) (a .at + 3) k z ≡ true = ap (sound (a .payload .now) (a .at + 3) k) (sym (c .before .before .wide .ensures .0)) ∙ sym (c .before .is-sound .ensures) ∙ c .if4 .taken in
+    let t : sound (a .payload .now) (a .at + 3) k z ≡ true = ap (sound (a .payload .now) (a .at + 3) k) (sym (c .before .before .usize-from-u16 .ensures .0)) ∙ sym (c .before .is-sound .ensures) ∙ c .if4 .taken in
     ended (a .payload .now) (a .at) z (Take.Bytes (c .before .before .before .before .body-length .result)) (omega arith) (c .before .before .before .before .before .be-u16 .ensures) (sound-taken (a .payload .now) (a .at + 3) z k fits t ∙ ap Take.Bytes (sym n))
 
 extent-of-requires-4 : tie.Need-extent-of-requires-4
@@ -93,7 +93,7 @@ quick-extent-spec =
     sub-if3
     extent-of-requires-3
     returns-3
-    wide-requires
+    usize-from-u16-requires
     is-sound-requires
     add-t13
     returns-4

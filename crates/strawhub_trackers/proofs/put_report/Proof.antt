@@ -1,5 +1,5 @@
-use mathlib.Core.Path.{_≡_, refl, sym, ap, _∙_}
-use borrow.Author.Tests.{eq-eqb, ne-eqb, lt-ltb, le-ltb}
+use mathlib.Core.Path.{refl, sym}
+use borrow.Author.Tests.{eq-eqb, ne-eqb}
 use Rattle.outcomes.specs.Trackers.{reportNumbers, reportPairs}
 use borrow.Author.Needs.{needs}
 use Rattle.strawhub_trackers.proofs.put_report.Statement.{statement}

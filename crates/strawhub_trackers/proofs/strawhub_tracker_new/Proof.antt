@@ -1,7 +1,7 @@
 use Prim.Native.Nat.{_<_}
 use lib.ListN.{length}
-use mathlib.Core.Path.{_≡_, refl, sym, ap, _∙_}
-use borrow.Author.Tests.{eq-eqb, ne-eqb, lt-ltb, le-ltb}
+use mathlib.Core.Path.{refl}
+use borrow.Author.Tests.{lt-ltb, le-ltb}
 use Rattle.acks.specs.Recorded.{short}
 use Rattle.outcomes.specs.Trackers.{newAnswer, newRecord}
 use borrow.Author.Needs.{needs}

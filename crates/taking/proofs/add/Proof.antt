@@ -7,8 +7,8 @@ use Rattle.taking.proofs.add.Tie as tie
 load-head-requires : tie.Need-load-head-requires
 load-head-requires c κs = search needs
 
-wide8-requires : tie.Need-wide8-requires
-wide8-requires c κs = search needs
+usize-from-u8-requires : tie.Need-usize-from-u8-requires
+usize-from-u8-requires c κs = search needs
 
 load-entry-requires : tie.Need-load-entry-requires
 load-entry-requires c κs = search needs
@@ -31,7 +31,7 @@ same-length-2 c = search needs
 returns : tie.Need-returns
 returns c =
     let a = c .before .before .before .before .before .before .before .before .before .before .before .before .before .before .before .before .args in
-    added-again (a .rec .now) (a .room .now) (a .out .now) (a .i) (a .l) (a .bytes .now) (c .before .before .before .before .before .before .before .before .before .before .load-head .result) (c .before .before .before .before .before .before .before .before .before .wide8 .result) (c .before .before .before .before .before .before .before .load-entry .result) (c .before .before .before .before .before .before .before .before .before .before .load-head .ensures) (c .before .before .before .before .before .before .before .before .before .wide8 .ensures .0) (c .before .before .before .before .before .before .before .load-entry .ensures) (c .bare .result) (c .before .again .result) (c .before .before .piece .result .now) (c .before .before .before .before .before .if1 .taken) (c .before .before .piece .ensures) (c .before .again .ensures) (c .bare .ensures)
+    added-again (a .rec .now) (a .room .now) (a .out .now) (a .i) (a .l) (a .bytes .now) (c .before .before .before .before .before .before .before .before .before .before .load-head .result) (c .before .before .before .before .before .before .before .before .before .usize-from-u8 .result) (c .before .before .before .before .before .before .before .load-entry .result) (c .before .before .before .before .before .before .before .before .before .before .load-head .ensures) (c .before .before .before .before .before .before .before .before .before .usize-from-u8 .ensures .0) (c .before .before .before .before .before .before .before .load-entry .ensures) (c .bare .result) (c .before .again .result) (c .before .before .piece .result .now) (c .before .before .before .before .before .if1 .taken) (c .before .before .piece .ensures) (c .before .again .ensures) (c .bare .ensures)
 
 misfits-requires : tie.Need-misfits-requires
 misfits-requires c κs = search needs
@@ -45,7 +45,7 @@ same-length-3 c = search needs
 returns-2 : tie.Need-returns-2
 returns-2 c =
     let a = c .before .before .before .before .before .before .before .before .before .before .before .before .before .before .args in
-    added-55 (a .rec .now) (a .room .now) (a .out .now) (a .i) (a .l) (a .bytes .now) (c .before .before .before .before .before .before .before .before .load-head .result) (c .before .before .before .before .before .before .before .wide8 .result) (c .before .before .before .before .before .load-entry .result) (c .before .before .before .before .before .before .before .before .load-head .ensures) (c .before .before .before .before .before .before .before .wide8 .ensures .0) (c .before .before .before .before .before .load-entry .ensures) (c .bare2 .result) (c .before .before .misfits .result) (c .before .before .before .if1 .left) (c .before .before .misfits .ensures) (c .before .if2 .taken) (c .bare2 .ensures)
+    added-55 (a .rec .now) (a .room .now) (a .out .now) (a .i) (a .l) (a .bytes .now) (c .before .before .before .before .before .before .before .before .load-head .result) (c .before .before .before .before .before .before .before .usize-from-u8 .result) (c .before .before .before .before .before .load-entry .result) (c .before .before .before .before .before .before .before .before .load-head .ensures) (c .before .before .before .before .before .before .before .usize-from-u8 .ensures .0) (c .before .before .before .before .before .load-entry .ensures) (c .bare2 .result) (c .before .before .misfits .result) (c .before .before .before .if1 .left) (c .before .before .misfits .ensures) (c .before .if2 .taken) (c .bare2 .ensures)
 
 put-requires : tie.Need-put-requires
 put-requires c κs = search needs
@@ -62,14 +62,14 @@ same-length-6 c = search needs
 returns-3 : tie.Need-returns-3
 returns-3 c =
     let a = c .before .before .before .before .before .before .before .before .before .before .before .before .before .before .before .before .before .before .before .before .before .before .before .args in
-    added-put (a .rec .now) (a .room .now) (a .out .now) (a .i) (a .l) (a .bytes .now) (c .before .before .before .before .before .before .before .before .before .before .before .before .before .before .before .before .before .load-head .result) (c .before .before .before .before .before .before .before .before .before .before .before .before .before .before .before .before .wide8 .result) (c .before .before .before .before .before .before .before .before .before .before .before .before .before .before .load-entry .result) (c .before .before .before .before .before .before .before .before .before .before .before .before .before .before .before .before .before .load-head .ensures) (c .before .before .before .before .before .before .before .before .before .before .before .before .before .before .before .before .wide8 .ensures .0) (c .before .before .before .before .before .before .before .before .before .before .before .before .before .before .load-entry .ensures) (after (c .before .before .before .before .before .before .put .result) (c .before .before .before .before .before .before .put .last .0) (c .before .before .before .before .before .before .put .last .1 .0) (c .before .before .before .before .before .before .put .last .1 .1 .0)) (c .before .before .before .before .before .before .before .before .before .before .before .misfits .result) (c .before .before .before .before .before .before .before .before .before .before .before .before .if1 .left) (c .before .before .before .before .before .before .before .before .before .before .before .misfits .ensures) (c .before .before .before .before .before .before .before .before .before .before .if2 .left) (c .before .before .before .before .before .before .put .ensures)
+    added-put (a .rec .now) (a .room .now) (a .out .now) (a .i) (a .l) (a .bytes .now) (c .before .before .before .before .before .before .before .before .before .before .before .before .before .before .before .before .before .load-head .result) (c .before .before .before .before .before .before .before .before .before .before .before .before .before .before .before .before .usize-from-u8 .result) (c .before .before .before .before .before .before .before .before .before .before .before .before .before .before .load-entry .result) (c .before .before .before .before .before .before .before .before .before .before .before .before .before .before .before .before .before .load-head .ensures) (c .before .before .before .before .before .before .before .before .before .before .before .before .before .before .before .before .usize-from-u8 .ensures .0) (c .before .before .before .before .before .before .before .before .before .before .before .before .before .before .load-entry .ensures) (after (c .before .before .before .before .before .before .put .result) (c .before .before .before .before .before .before .put .last .0) (c .before .before .before .before .before .before .put .last .1 .0) (c .before .before .before .before .before .before .put .last .1 .1 .0)) (c .before .before .before .before .before .before .before .before .before .before .before .misfits .result) (c .before .before .before .before .before .before .before .before .before .before .before .before .if1 .left) (c .before .before .before .before .before .before .before .before .before .before .before .misfits .ensures) (c .before .before .before .before .before .before .before .before .before .before .if2 .left) (c .before .before .before .before .before .before .put .ensures)
 
 pub add-spec : {M : Type 1} → statement M
 add-spec =
     tie.close
     (tie.spec
     load-head-requires
-    wide8-requires
+    usize-from-u8-requires
     load-entry-requires
     piece-requires
     again-requires

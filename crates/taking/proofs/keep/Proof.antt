@@ -6,8 +6,8 @@ use Rattle.taking.proofs.keep.Tie as tie
 mul-copy-to : tie.Need-mul-copy-to
 mul-copy-to c = search needs
 
-wide16-requires : tie.Need-wide16-requires
-wide16-requires c κs = search needs
+usize-from-u16-requires : tie.Need-usize-from-u16-requires
+usize-from-u16-requires c κs = search needs
 
 add-copy-to : tie.Need-add-copy-to
 add-copy-to c = search needs
@@ -33,14 +33,14 @@ same-length-2 c = search needs
 returns : tie.Need-returns
 returns c =
     let a = c .before .before .before .before .before .before .before .before .before .before .before .before .before .before .before .before .args in
-    kept-is (a .rec .now) (c .before .before .before .before .before .before .save-entry .last .0) (c .before .before .save-head .last .0) (a .room .now) (c .before .before .before .before .before .before .before .before .before .before .copy-to .last .0) (a .i) (a .k) (a .total) (a .g) (a .bytes .now) (c .before .before .before .before .before .before .before .before .before .before .before .wide16 .result) (c .before .before .before .before .before .before .before .before .before .before .before .wide16 .ensures .0) (c .before .before .before .before .before .before .before .before .before .before .copy-to .ensures) (c .before .before .before .before .before .before .save-entry .ensures) (c .before .before .save-head .ensures)
+    kept-is (a .rec .now) (c .before .before .before .before .before .before .save-entry .last .0) (c .before .before .save-head .last .0) (a .room .now) (c .before .before .before .before .before .before .before .before .before .before .copy-to .last .0) (a .i) (a .k) (a .total) (a .g) (a .bytes .now) (c .before .before .before .before .before .before .before .before .before .before .before .usize-from-u16 .result) (c .before .before .before .before .before .before .before .before .before .before .before .usize-from-u16 .ensures .0) (c .before .before .before .before .before .before .before .before .before .before .copy-to .ensures) (c .before .before .before .before .before .before .save-entry .ensures) (c .before .before .save-head .ensures)
 
 pub keep-spec : {M : Type 1} → statement M
 keep-spec =
     tie.close
     (tie.spec
     mul-copy-to
-    wide16-requires
+    usize-from-u16-requires
     add-copy-to
     copy-to-requires
     cast-t17

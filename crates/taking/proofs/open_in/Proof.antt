@@ -22,8 +22,8 @@ grown-requires c κs =
     let z : c .new-head .result .total ≡ 0 = ap (λ (x : Head). x .total) (c .new-head .ensures) in
     omega arith
 
-wide8-requires : tie.Need-wide8-requires
-wide8-requires c κs = search needs
+usize-from-u8-requires : tie.Need-usize-from-u8-requires
+usize-from-u8-requires c κs = search needs
 
 keep-requires : tie.Need-keep-requires
 keep-requires c κs = search needs
@@ -37,7 +37,7 @@ same-length-2 c = search needs
 returns : tie.Need-returns
 returns c =
     let a = c .before .before .before .before .before .before .before .before .before .before .before .before .before .before .before .before .before .args in
-    opened-kept (a .rec .now) (a .room .now) (c .before .before .before .before .before .before .before .before .before .before .before .before .clear-entries .last .0) (c .before .before .before .before .keep .last .0) (c .before .before .before .before .keep .last .1 .0) (a .i) (c .before .before .before .before .before .wide8 .result) (a .second) (a .l) (c .before .before .before .before .before .before .before .before .before .new-head .result) (c .before .before .before .before .before .before .before .before .grown .result) (a .bytes .now) (c .before .before .before .before .before .before .before .before .before .before .before .before .clear-entries .ensures) (c .before .before .before .before .before .before .before .before .before .new-head .ensures) (c .before .before .before .before .before .before .before .before .grown .ensures) (c .before .before .before .before .before .wide8 .ensures .0) (c .before .before .before .before .keep .ensures .0) (c .before .before .before .before .keep .ensures .1)
+    opened-kept (a .rec .now) (a .room .now) (c .before .before .before .before .before .before .before .before .before .before .before .before .clear-entries .last .0) (c .before .before .before .before .keep .last .0) (c .before .before .before .before .keep .last .1 .0) (a .i) (c .before .before .before .before .before .usize-from-u8 .result) (a .second) (a .l) (c .before .before .before .before .before .before .before .before .before .new-head .result) (c .before .before .before .before .before .before .before .before .grown .result) (a .bytes .now) (c .before .before .before .before .before .before .before .before .before .before .before .before .clear-entries .ensures) (c .before .before .before .before .before .before .before .before .before .new-head .ensures) (c .before .before .before .before .before .before .before .before .grown .ensures) (c .before .before .before .before .before .usize-from-u8 .ensures .0) (c .before .before .before .before .keep .ensures .0) (c .before .before .before .before .keep .ensures .1)
 
 pub open-in-spec : {M : Type 1} → statement M
 open-in-spec =
@@ -47,7 +47,7 @@ open-in-spec =
     new-head-requires
     cast-grown
     grown-requires
-    wide8-requires
+    usize-from-u8-requires
     keep-requires
     same-length
     same-length-2

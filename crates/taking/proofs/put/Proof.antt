@@ -7,8 +7,8 @@ use borrow.Author.Needs.{needs}
 use Rattle.taking.proofs.put.Statement.{statement}
 use Rattle.taking.proofs.put.Tie as tie
 
-wide16-requires : tie.Need-wide16-requires
-wide16-requires c κs = search needs
+usize-from-u16-requires : tie.Need-usize-from-u16-requires
+usize-from-u16-requires c κs = search needs
 
 add-if1 : tie.Need-add-if1
 add-if1 c = search needs
@@ -48,8 +48,8 @@ returns-2 c =
     let a = c .before .before .before .before .before .before .before .before .before .before .before .before .before .before .before .before .before .args in
     put-whole (a .rec .now) (a .room .now) (a .out .now) (a .i) (a .h) (a .l) (a .bytes .now) (after (c .before .before .before .before .finish .result) (c .before .before .before .before .finish .last .0) (a .room .now) (c .before .before .before .before .finish .last .1 .1 .0)) (c .before .before .before .before .before .before .before .before .before .before .grown .result) (search needs) (c .before .before .before .before .before .before .before .before .before .before .grown .ensures) (sym (c .before .before .before .before .before .before .before .before .before .is-whole .ensures) ∙ c .before .before .before .before .before .before .before .before .if2 .taken) (c .before .before .before .before .finish .ensures)
 
-wide8-requires : tie.Need-wide8-requires
-wide8-requires c κs = search needs
+usize-from-u8-requires : tie.Need-usize-from-u8-requires
+usize-from-u8-requires c κs = search needs
 
 keep-requires : tie.Need-keep-requires
 keep-requires c κs = search needs
@@ -66,13 +66,13 @@ same-length-5 c = search needs
 returns-3 : tie.Need-returns-3
 returns-3 c =
     let a = c .before .before .before .before .before .before .before .before .before .before .before .before .before .before .before .before .before .before .args in
-    put-kept (a .rec .now) (a .room .now) (a .out .now) (a .i) (a .h) (a .l) (a .bytes .now) (c .bare2 .result) (c .before .before .before .before .before .keep .last .0) (c .before .before .before .before .before .keep .last .1 .0) (c .before .before .before .before .before .before .before .before .before .before .before .grown .result) (c .before .before .before .before .before .before .wide8 .result) (omega arith) (c .before .before .before .before .before .before .before .before .before .before .before .grown .ensures) (sym (c .before .before .before .before .before .before .before .before .before .before .is-whole .ensures) ∙ c .before .before .before .before .before .before .before .before .before .if2 .left) (c .before .before .before .before .before .before .wide8 .ensures .0) (c .before .before .before .before .before .keep .ensures .0) (c .before .before .before .before .before .keep .ensures .1) (c .bare2 .ensures)
+    put-kept (a .rec .now) (a .room .now) (a .out .now) (a .i) (a .h) (a .l) (a .bytes .now) (c .bare2 .result) (c .before .before .before .before .before .keep .last .0) (c .before .before .before .before .before .keep .last .1 .0) (c .before .before .before .before .before .before .before .before .before .before .before .grown .result) (c .before .before .before .before .before .before .usize-from-u8 .result) (omega arith) (c .before .before .before .before .before .before .before .before .before .before .before .grown .ensures) (sym (c .before .before .before .before .before .before .before .before .before .before .is-whole .ensures) ∙ c .before .before .before .before .before .before .before .before .before .if2 .left) (c .before .before .before .before .before .before .usize-from-u8 .ensures .0) (c .before .before .before .before .before .keep .ensures .0) (c .before .before .before .before .before .keep .ensures .1) (c .bare2 .ensures)
 
 pub put-spec : {M : Type 1} → statement M
 put-spec =
     tie.close
     (tie.spec
-    wide16-requires
+    usize-from-u16-requires
     add-if1
     bare-requires
     returns
@@ -84,7 +84,7 @@ put-spec =
     same-length-2
     same-length-3
     returns-2
-    wide8-requires
+    usize-from-u8-requires
     keep-requires
     bare-requires-2
     same-length-4

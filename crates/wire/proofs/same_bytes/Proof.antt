@@ -5,7 +5,7 @@ use lib.Dec.{eqb}
 use lib.ListN.{length, take, getD}
 use mathlib.Core.Bool.{Bool, _&&_}
 use mathlib.Core.Path.{_≡_, refl, sym, ap, _∙_}
-use Prim.Native.Nat.{ℕ, _≤_, _<_, _-_, _+_}
+use Prim.Native.Nat.{ℕ, _≤_, _-_}
 use Rattle.wire.specs.Parts.{same}
 use Rattle.wire.proofs.Same.{same-more, same-apart}
 use Rattle.wire.proofs.same_bytes.Statement.{statement}

@@ -1,4 +1,4 @@
-use mathlib.Core.Path.{ap, sym, _∙_}
+use mathlib.Core.Path.{ap, _∙_}
 use Prim.Native.Nat.{_/_, _%_}
 use Rattle.wire.specs.Parts.{splice}
 use Rattle.wire.specs.Numbers.{littleBytes}

@@ -6,7 +6,7 @@ use native.Mathlib.Omega.{arith}
 use lib.ListN.{length}
 use Rattle.wire.specs.Parts.{splice}
 use Rattle.blocks.specs.Writing.{fieldLength, carries}
-use Rattle.blocks.proofs.Puts.{puts-none}
+use Rattle.wire.proofs.Slices.{splice-none}
 use borrow.Author.Needs.{needs}
 use Rattle.writer.proofs.put_bytes.Statement.{statement}
 use Rattle.writer.proofs.put_bytes.Tie as tie
@@ -36,7 +36,7 @@ returns c = let a = c .before .before .before .before .before .before .before .b
 
 returns-2 : tie.Need-returns-2
 returns-2 c = let a = c .before .before .before .before .args in
-    puts-none (a .room .now) (3 + fieldLength (a .block))
+    sym (splice-none (a .room .now) (3 + fieldLength (a .block)))
     ∙ sym (ap (λ (t : Bool). splice (a .room .now) (3 + fieldLength (a .block)) (cond t (a .body .now) [])) (sym (c .before .carries-bytes .ensures) ∙ c .if1 .left))
 
 pub put-bytes-spec : {M : Type 1} → statement M

@@ -1,6 +1,6 @@
 use mathlib.Core.Path.{ap, _∙_}
 use borrow.Author.Tests.{eq-eqb, ne-eqb}
-use Rattle.header.specs.Reading.{longAt, longKind, kindOf}
+use Rattle.header.specs.Reading.{longKind, kindOf}
 use borrow.Author.Needs.{needs}
 use Rattle.packets.proofs.parts.kind_of.Statement.{statement}
 use Rattle.packets.proofs.parts.kind_of.Tie as tie

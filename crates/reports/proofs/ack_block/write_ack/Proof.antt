@@ -7,7 +7,7 @@ use lib.Seq.{length-take-le}
 use borrow.Author.Tests.{ne-eqb}
 use Rattle.acks.specs.Reporting.{pairBytes}
 use Rattle.acks.specs.AckBlocks.{ackWriting, ackRoom}
-use Rattle.acks.proofs.Lists.{take-min}
+use Rattle.wire.proofs.Slices.{take-min}
 use borrow.Author.Needs.{needs}
 use Rattle.reports.proofs.ack_block.write_ack.Statement.{statement}
 use Rattle.reports.proofs.ack_block.write_ack.Tie as tie

@@ -12,11 +12,11 @@ use Rattle.slots.proofs.pieces.piece.Tie as tie
 load-entry-requires : tie.Need-load-entry-requires
 load-entry-requires c κs = search needs
 
-wide16-requires : tie.Need-wide16-requires
-wide16-requires c κs = search needs
+usize-from-u16-requires : tie.Need-usize-from-u16-requires
+usize-from-u16-requires c κs = search needs
 
-wide16-requires-2 : tie.Need-wide16-requires-2
-wide16-requires-2 c κs = search needs
+usize-from-u16-requires-2 : tie.Need-usize-from-u16-requires-2
+usize-from-u16-requires-2 c κs = search needs
 
 cut-requires : tie.Need-cut-requires
 cut-requires c κs = search needs
@@ -52,8 +52,8 @@ returns : tie.Need-returns
 unfolding part roomOf pieceAt
 returns c =
     let a = c .before .before .before .before .before .before .before .before .args in
-    let p = c .before .before .before .before .wide16 .result in
-    let n = c .before .before .before .wide162 .result in
+    let p = c .before .before .before .before .usize-from-u16 .result in
+    let n = c .before .before .before .usize-from-u162 .result in
     let r = c .before .before .cut .result in
     let b : ℕ = a .i * 65535 in
     let e₁ : p + r - p ≡ r = omega arith in
@@ -71,8 +71,8 @@ piece-spec =
     tie.close
     (tie.spec
     load-entry-requires
-    wide16-requires
-    wide16-requires-2
+    usize-from-u16-requires
+    usize-from-u16-requires-2
     cut-requires
     mul-a
     add-b

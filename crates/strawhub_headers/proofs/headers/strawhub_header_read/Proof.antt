@@ -1,4 +1,4 @@
-use mathlib.Core.Path.{_≡_, ap, _∙_}
+use mathlib.Core.Path.{ap, _∙_}
 use Rattle.header.specs.declared.Answer.{Answer}
 use Rattle.numbers.specs.Headers.{answerNumber, answerNumbers}
 use borrow.Author.Needs.{needs}

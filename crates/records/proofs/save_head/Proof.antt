@@ -1,7 +1,7 @@
 use Rattle.reassembly.specs.Record.{withHead}
 use borrow.Author.Needs.{needs}
-use Rattle.slots.proofs.record.save_head.Statement.{statement}
-use Rattle.slots.proofs.record.save_head.Tie as tie
+use Rattle.records.proofs.save_head.Statement.{statement}
+use Rattle.records.proofs.save_head.Tie as tie
 
 head-bytes-requires : tie.Need-head-bytes-requires
 head-bytes-requires c κs = search needs

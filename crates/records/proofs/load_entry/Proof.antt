@@ -5,8 +5,8 @@ use lib.ListN.{take, drop}
 use Rattle.wire.specs.Parts.{part}
 use Rattle.reassembly.specs.Record.{entryAt, entryOf}
 use borrow.Author.Needs.{needs}
-use Rattle.slots.proofs.record.load_entry.Statement.{statement}
-use Rattle.slots.proofs.record.load_entry.Tie as tie
+use Rattle.records.proofs.load_entry.Statement.{statement}
+use Rattle.records.proofs.load_entry.Tie as tie
 
 mul-a : tie.Need-mul-a
 mul-a c = search needs

@@ -1,7 +1,7 @@
 use Rattle.reassembly.specs.Record.{cleared}
 use borrow.Author.Needs.{needs}
-use Rattle.slots.proofs.record.clear_entries.Statement.{statement}
-use Rattle.slots.proofs.record.clear_entries.Tie as tie
+use Rattle.records.proofs.clear_entries.Statement.{statement}
+use Rattle.records.proofs.clear_entries.Tie as tie
 
 mul-clear : tie.Need-mul-clear
 mul-clear c = search needs

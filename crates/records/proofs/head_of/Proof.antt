@@ -1,7 +1,7 @@
 use Rattle.reassembly.specs.Record.{headOf}
 use borrow.Author.Needs.{needs}
-use Rattle.slots.proofs.record.head_of.Statement.{statement}
-use Rattle.slots.proofs.record.head_of.Tie as tie
+use Rattle.records.proofs.head_of.Statement.{statement}
+use Rattle.records.proofs.head_of.Tie as tie
 
 le-u32-requires : tie.Need-le-u32-requires
 le-u32-requires c κs = search needs

@@ -5,7 +5,7 @@ ghost use mathlib.Core.Path.{_≡_};
 ghost use Prim.Native.Nat.{_+_, _*_, _<_, _≤_};
 ghost use lib.ListN.{length, replicate};
 ghost use Rattle.wire.specs.Parts.{splice};
-ghost use Rattle.reassembly.specs.Record.{headOf, headBytes, entryOf, entryBytes, headAt, withHead, entryAt, withEntry, cleared};
+ghost use Rattle.reassembly.specs.Record.{headOf, headBytes, entryOf, headAt, withHead, entryAt, withEntry, cleared};
 
 fn head_of(b: &[u8]) -> Head
     requires { ⌜ length (now b) ≡ 24 ⌝ }

@@ -1,8 +1,8 @@
 use Rattle.reassembly.specs.Record.{withEntry}
 use Rattle.reassembly.proofs.Fields.{entry-written}
 use borrow.Author.Needs.{needs}
-use Rattle.slots.proofs.record.save_entry.Statement.{statement}
-use Rattle.slots.proofs.record.save_entry.Tie as tie
+use Rattle.records.proofs.save_entry.Statement.{statement}
+use Rattle.records.proofs.save_entry.Tie as tie
 
 cast-t7 : tie.Need-cast-t7
 cast-t7 c = search needs

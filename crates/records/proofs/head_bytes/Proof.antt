@@ -1,8 +1,8 @@
 use mathlib.Core.Path.{sym}
 use Rattle.reassembly.proofs.Fields.{head-written}
 use borrow.Author.Needs.{needs}
-use Rattle.slots.proofs.record.head_bytes.Statement.{statement}
-use Rattle.slots.proofs.record.head_bytes.Tie as tie
+use Rattle.records.proofs.head_bytes.Statement.{statement}
+use Rattle.records.proofs.head_bytes.Tie as tie
 
 cast-a : tie.Need-cast-a
 cast-a c = search needs

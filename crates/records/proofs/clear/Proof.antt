@@ -5,8 +5,8 @@ use lib.Seq.{paste, paste-zero}
 use mathlib.Core.Path.{_≡_, refl}
 use Prim.Native.Nat.{_≤_, _-_, _+_}
 use Rattle.reassembly.proofs.Zeros.{zero-turn, zero-end}
-use Rattle.slots.proofs.record.clear.Statement.{statement}
-use Rattle.slots.proofs.record.clear.Tie as tie
+use Rattle.records.proofs.clear.Statement.{statement}
+use Rattle.records.proofs.clear.Tie as tie
 
 abbrev Inv-loop : tie.InvT-loop
 Inv-loop b₀ at n i₀ b i = (i ≤ n) × (length b ≡ length b₀) × (at + n ≤ length b₀) × (b ≡ paste b₀ at (replicate n 0) i)

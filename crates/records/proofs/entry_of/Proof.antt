@@ -1,7 +1,7 @@
 use Rattle.reassembly.specs.Record.{entryOf}
 use borrow.Author.Needs.{needs}
-use Rattle.slots.proofs.record.entry_of.Statement.{statement}
-use Rattle.slots.proofs.record.entry_of.Tie as tie
+use Rattle.records.proofs.entry_of.Statement.{statement}
+use Rattle.records.proofs.entry_of.Tie as tie
 
 le-u16-requires : tie.Need-le-u16-requires
 le-u16-requires c κs = search needs

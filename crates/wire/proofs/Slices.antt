@@ -1,4 +1,4 @@
--- Laws of parts and splices that `wire` does not have yet. Assumes nothing.
+-- Laws of parts and splices as slices give them: nothing put, one element more, a range cut to what is there. Assumes nothing.
 use mathlib.Core.Path.{_≡_, refl, sym, ap, _∙_}
 use mathlib.Core.Bool.{Bool, true, false}
 use mathlib.Core.List.{List, [], _∷_, _++_, append-nil}
