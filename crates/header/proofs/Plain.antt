@@ -31,8 +31,7 @@ front-put f p {m1} {m2} {m3} h e1 e2 e13 e14 e3 =
     let n = bigBytes 4 (f .number) in
     let both = puts p 0 8 4 8 d n (length-little 8 (f .destination)) (length-big 4 (f .number)) refl (omega arith) e1 e2 in
     puts p 0 12 4 12 (d ++ n) (f .kind ∷ byte13 f ∷ byte14 f ∷ 0 ∷ []) (both .1) refl refl (omega arith) (both .0)
-    (e3 ∙ ap₂ (λ (x y : ℕ). splice m2 12 (f .kind ∷ x ∷ y ∷ 0 ∷ [])) e13 e14)
-    .0
+    (e3 ∙ ap₂ (λ (x y : ℕ). splice m2 12 (f .kind ∷ x ∷ y ∷ 0 ∷ [])) e13 e14) .0
 
 -- the next 16
 pub ids-put : (f : Fields) (p : List ℕ) {m1 m2 : List ℕ} → 32 ≤ length p

@@ -55,41 +55,44 @@ unfolding headBytes
 head-long f e = rw e
 
 -- the fields' bytes in them
-first-8 : (f : Fields) → part (frontBytes f) 0 8 ≡ littleBytes 8 (f .destination)
-unfolding frontBytes
-first-8 f =
-    let d = littleBytes 8 (f .destination) in
-    let n = bigBytes 4 (f .number) in
-    let last = f .kind ∷ byte13 f ∷ byte14 f ∷ 0 ∷ [] in
-    ap (λ (z : List ℕ). part z 0 8) (append-assoc d n last) ∙ part-middle [] d (n ++ last) 0 8 refl (length-little 8 (f .destination))
+module _ (f : Fields) where
+  abbrev destination8 : List ℕ
+  destination8 = littleBytes 8 (f .destination)
 
-next-4 : (f : Fields) → part (frontBytes f) 8 4 ≡ bigBytes 4 (f .number)
-unfolding frontBytes
-next-4 f =
-    let d = littleBytes 8 (f .destination) in
-    let n = bigBytes 4 (f .number) in
-    let last = f .kind ∷ byte13 f ∷ byte14 f ∷ 0 ∷ [] in
-    ap (λ (z : List ℕ). part z 8 4) (append-assoc d n last) ∙ part-middle d n last 8 4 (length-little 8 (f .destination)) (length-big 4 (f .number))
+  abbrev number4 : List ℕ
+  number4 = bigBytes 4 (f .number)
 
-last-4 : (f : Fields) (i : ℕ) → getD (frontBytes f) (12 + i) 0 ≡ getD (f .kind ∷ byte13 f ∷ byte14 f ∷ 0 ∷ []) i 0
-unfolding frontBytes
-last-4 f i =
-    let d = littleBytes 8 (f .destination) in
-    let n = bigBytes 4 (f .number) in
-    let last = f .kind ∷ byte13 f ∷ byte14 f ∷ 0 ∷ [] in
-    let twelve : length (d ++ n) ≡ 12 = simp (length-append, length-little, length-big) in
-    ap (λ (k : ℕ). getD (d ++ n ++ last) (k + i) 0) (sym twelve) ∙ getD-append-add (d ++ n) last i 0
+  abbrev kind4 : List ℕ
+  kind4 = f .kind ∷ byte13 f ∷ byte14 f ∷ 0 ∷ []
 
-source-8 : (f : Fields) → part (idBytes f) 0 8 ≡ littleBytes 8 (f .source)
-unfolding idBytes
-source-8 f = part-middle [] (littleBytes 8 (f .source)) (littleBytes 8 (f .token)) 0 8 refl (length-little 8 (f .source))
+  first-8 : part (frontBytes f) 0 8 ≡ littleBytes 8 (f .destination)
+  unfolding frontBytes
+  first-8 =
+      ap (λ (z : List ℕ). part z 0 8) (append-assoc destination8 number4 kind4)
+      ∙ part-middle [] destination8 (number4 ++ kind4) 0 8 refl (length-little 8 (f .destination))
 
-token-8 : (f : Fields) → part (idBytes f) 8 8 ≡ littleBytes 8 (f .token)
-unfolding idBytes
-token-8 f =
-    let s = littleBytes 8 (f .source) in
-    let t = littleBytes 8 (f .token) in
-    ap (λ (z : List ℕ). part (s ++ z) 8 8) (sym (append-nil t)) ∙ part-middle s t [] 8 8 (length-little 8 (f .source)) (length-little 8 (f .token))
+  next-4 : part (frontBytes f) 8 4 ≡ bigBytes 4 (f .number)
+  unfolding frontBytes
+  next-4 =
+      ap (λ (z : List ℕ). part z 8 4) (append-assoc destination8 number4 kind4)
+      ∙ part-middle destination8 number4 kind4 8 4 (length-little 8 (f .destination)) (length-big 4 (f .number))
+
+  last-4 : (i : ℕ) → getD (frontBytes f) (12 + i) 0 ≡ getD kind4 i 0
+  unfolding frontBytes
+  last-4 i =
+      let twelve : length (destination8 ++ number4) ≡ 12 = simp (length-append, length-little, length-big) in
+      ap (λ (k : ℕ). getD (destination8 ++ number4 ++ kind4) (k + i) 0) (sym twelve)
+      ∙ getD-append-add (destination8 ++ number4) kind4 i 0
+
+  source-8 : part (idBytes f) 0 8 ≡ littleBytes 8 (f .source)
+  unfolding idBytes
+  source-8 = part-middle [] (littleBytes 8 (f .source)) (littleBytes 8 (f .token)) 0 8 refl (length-little 8 (f .source))
+
+  token-8 : part (idBytes f) 8 8 ≡ littleBytes 8 (f .token)
+  unfolding idBytes
+  token-8 =
+      ap (λ (z : List ℕ). part (littleBytes 8 (f .source) ++ z) 8 8) (sym (append-nil (littleBytes 8 (f .token))))
+      ∙ part-middle (littleBytes 8 (f .source)) (littleBytes 8 (f .token)) [] 8 8 (length-little 8 (f .source)) (length-little 8 (f .token))
 
 module _ (f : Fields) (p : List ℕ) (h : 32 ≤ length p) where
   fits : 0 + length (headBytes f) ≤ length p
