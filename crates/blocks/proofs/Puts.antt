@@ -1,14 +1,10 @@
--- Laws of writing a block: one put after another, and the answers in their order. Assumes nothing.
+-- Laws of writing a block: how long its fields are, and the answers in their order. Assumes nothing.
 use mathlib.Core.Path.{_≡_, refl, sym, ap, _∙_}
 use mathlib.Core.Bool.{Bool, true, false, cond}
-use mathlib.Core.List.{List, [], _∷_, _++_, append-assoc}
-use Prim.Native.Nat.{ℕ, _+_, _%_, _≤_, _<_}
-use native.Mathlib.Omega.{arith}
+use mathlib.Core.List.{List, [], _++_, append-assoc}
+use Prim.Native.Nat.{ℕ, _+_, _≤_, _<_}
 use lib.ListN.{length, length-append}
 use borrow.Author.Tests.{lt-ltb, le-ltb}
-use Rattle.wire.specs.Parts.{splice}
-use Rattle.wire.specs.Numbers.{littleBytes, bigBytes}
-use Rattle.wire.proofs.Parts.{splice-then}
 use Rattle.wire.proofs.Numbers.{length-big}
 use Rattle.blocks.specs.declared.Block.{Block}
 use Rattle.blocks.specs.declared.Block.the-variants as Body
@@ -16,19 +12,8 @@ use Rattle.blocks.specs.declared.Written.{Written}
 use Rattle.blocks.specs.declared.Written.the-variants as Wrote
 use Rattle.blocks.specs.Writing.{fieldBytes, fieldLength, carries, sizeOf, faulty, writing, stored, roomAfter}
 
--- one put after a run of puts that is k long
-pub puts : (l : List ℕ) (o k j p : ℕ) (v w : List ℕ) {m n : List ℕ} → length v ≡ k → length w ≡ j → p ≡ o + k → o + k + j ≤ length l → m ≡ splice l o v → n ≡ splice m p w → (n ≡ splice l o (v ++ w)) × (length (v ++ w) ≡ k + j)
-puts l o k j p v w {m} {n} hv hw hp fits e f =
-    let q : p ≡ o + length v = omega arith in
-    (splice-then l o v w (omega arith) e (f ∙ ap (λ (z : ℕ). splice m z w) q), omega (arith, length-append v w))
-
 pub join-five : (a b c d e : List ℕ) → a ++ (b ++ c ++ d ++ e) ≡ a ++ b ++ c ++ d ++ e
 join-five a b c d e = simp append-assoc
-
--- a byte is the one byte of a number
-pub one-byte : (x : ℕ) → x % 256 ∷ [] ≡ bigBytes 1 x
-unfolding bigBytes littleBytes
-one-byte x = refl
 
 -- the fields are as long as is said
 pub fields-length : (b : Block) → length (fieldBytes b) ≡ fieldLength b

@@ -3,15 +3,15 @@ use mathlib.Core.Path.{_≡_, refl, sym, ap, _∙_, subst}
 use mathlib.Core.Bool.{Bool, true, false, cond, not}
 use mathlib.Core.List.{List, [], _∷_, _++_, append-assoc, append-nil}
 use mathlib.Core.Logic.{_⊎_, inl, inr, ⊎-elim}
-use Prim.Native.Nat.{ℕ, suc, _+_, _-_, _*_, _/_, _%_, _^_, _<_, _≤_}
+use Prim.Native.Nat.{ℕ, _+_, _-_, _*_, _/_, _%_, _<_, _≤_}
 use native.Mathlib.Omega.{arith}
 use lib.Dec.{ltb, leb, eqb}
-use lib.ListN.{length, take, drop, getD}
+use lib.ListN.{length, getD}
 use borrow.Author.Tests.{ltb-false, leb-false, eqb-true, eqb-false, le-ltb, ne-eqb}
 use Rattle.wire.specs.Parts.{part, splice}
-use Rattle.wire.specs.Numbers.{Bytes, big, bigBytes, bigAt}
-use Rattle.wire.proofs.Parts.{length-part, part-add, part-cons, part-reads}
-use Rattle.wire.proofs.Numbers.{bytes-part, bigAt-again, big-lt}
+use Rattle.wire.specs.Numbers.{Bytes, bigBytes, bigAt}
+use Rattle.wire.proofs.Parts.{length-part, part-none, part-one, part-first, part-join}
+use Rattle.wire.proofs.Numbers.{bigAt-again, bigAt-lt, big-one}
 use Rattle.blocks.specs.declared.Block.{Block}
 use Rattle.blocks.specs.declared.Taken.{Taken}
 use Rattle.blocks.specs.declared.Taken.the-variants as Take
@@ -25,7 +25,7 @@ use Rattle.blocks.specs.Reading.{blockAt, reading, readAt}
 use Rattle.blocks.specs.Writing.{kindOf, named, fieldBytes, bytesOf, sizeOf, written, faulty, writing, stored, roomAfter}
 use Rattle.blocks.specs.Claims.{shown, ReadThenWrite}
 use Rattle.blocks.proofs.Ends.{bounded}
-use Rattle.blocks.proofs.Puts.{one-byte, is-length}
+use Rattle.blocks.proofs.Puts.{is-length}
 use Rattle.blocks.proofs.Types.{by-kind, opaque-is}
 
 -- ---- what an answer says of the size
@@ -81,31 +81,11 @@ even-pairs z = go (eqb ((z - 5) % 2) 0) refl
     go true e = eqb-true ((z - 5) % 2) 0 e
     go false e = refl
 
--- ---- bytes, read and put again
-
-module _ (s : List ℕ) (bytes : Bytes s) where
-  again : (m o : ℕ) → o + m ≤ length s → bigBytes m (bigAt m s o) ≡ part s o m
-  again m o h = bigAt-again m s o h bytes
-
-  one : (o : ℕ) → o < length s → getD s o 0 ∷ [] ≡ part s o 1
-  one o h = sym (part-reads s o 0 0 (omega arith))
-
-  first : (o p m n : ℕ) → o < length s → p ≡ o + 1 → n ≡ 1 + m → getD s o 0 ∷ part s p m ≡ part s o n
-  first o p m n h d e =
-      let q : p ≡ suc o = omega arith in
-      let r : suc m ≡ n = omega arith in
-      ap (λ (i : ℕ). getD s o 0 ∷ part s i m) q ∙ sym (part-cons s o m 0 h) ∙ ap (part s o) r
-
-  join : (a m b n k : ℕ) → b ≡ a + m → k ≡ m + n → part s a m ++ part s b n ≡ part s a k
-  join a m b n k e f = ap (λ (i : ℕ). part s a m ++ part s i n) e ∙ sym (part-add s a m n) ∙ ap (part s a) (sym f)
-
-big-at : (s : List ℕ) → Bytes s → (o : ℕ) → o + 2 ≤ length s → bigAt 2 s o < 65536
-unfolding bigAt
-big-at s bytes o h = subst (λ (n : ℕ). big (part s o 2) < 256 ^ n) (length-part s o 2 h) (big-lt (part s o 2) (bytes-part s o 2 bytes))
+-- ---- a byte, read and put again
 
 -- number * 2 + last is the byte that they were read from
 follow-byte : (v : ℕ) → v < 256 → bigBytes 1 (v / 2 * 2 + cond (eqb (v % 2) 1) 1 0) ≡ v ∷ []
-follow-byte v h = sym (one-byte (v / 2 * 2 + cond (eqb (v % 2) 1) 1 0)) ∙ ap (λ (x : ℕ). x ∷ []) (go (eqb (v % 2) 1) refl)
+follow-byte v h = big-one (v / 2 * 2 + cond (eqb (v % 2) 1) 1 0) ∙ ap (λ (x : ℕ). x ∷ []) (go (eqb (v % 2) 1) refl)
   where
     go : (b : Bool) → eqb (v % 2) 1 ≡ b → (v / 2 * 2 + cond b 1 0) % 256 ≡ v
     go true e = let q : v % 2 ≡ 1 = eqb-true (v % 2) 1 e in omega arith
@@ -127,7 +107,7 @@ module _ (s : List ℕ) (bytes : Bytes s) (o z : ℕ) where
   four : (n : ℕ) → o + n ≤ length s → fitsIn 4 (length s - o) ≡ Take.Bytes n → (4 ≡ n) × (bigBytes 4 (bigAt 4 s o) ++ [] ≡ part s o n)
   four n h e =
       let q : 4 ≡ n = given (fits {P = λ m. 4 ≡ m} 4 (length s - o) refl) e in
-      (q, rw (again s bytes 4 o (omega arith), append-nil) (ap (part s o) q))
+      (q, rw (bigAt-again 4 s o (omega arith) bytes, append-nil) (ap (part s o) q))
 
   date-time : Goal 0
   unfolding takenAt blockAt faulty
@@ -143,19 +123,19 @@ module _ (s : List ℕ) (bytes : Bytes s) (o z : ℕ) where
         no-fault = refl;
         is-bytes =
             rw (
-              again s bytes 2 (o + 4) (omega arith),
-              again s bytes 2 (o + 6) (omega arith),
-              again s bytes 2 (o + 8) (omega arith),
-              again s bytes 2 (o + 10) (omega arith),
-              join s bytes (o + 4) 2 (o + 6) 2 4 (omega arith) refl,
-              join s bytes (o + 4) 4 (o + 8) 2 6 (omega arith) refl,
-              join s bytes (o + 4) 6 (o + 10) 2 8 (omega arith) refl,
+              bigAt-again 2 s (o + 4) (omega arith) bytes,
+              bigAt-again 2 s (o + 6) (omega arith) bytes,
+              bigAt-again 2 s (o + 8) (omega arith) bytes,
+              bigAt-again 2 s (o + 10) (omega arith) bytes,
+              part-join s (o + 4) 2 (o + 6) 2 4 (omega arith) refl,
+              part-join s (o + 4) 4 (o + 8) 2 6 (omega arith) refl,
+              part-join s (o + 4) 6 (o + 10) 2 8 (omega arith) refl,
               append-nil (part s (o + 4) 8),
-              first s bytes (o + 3) (o + 4) 8 9 (omega arith) (omega arith) refl,
-              first s bytes (o + 2) (o + 3) 9 10 (omega arith) (omega arith) refl,
-              first s bytes (o + 1) (o + 2) 10 11 (omega arith) (omega arith) refl,
+              part-first s (o + 3) (o + 4) 8 9 0 (omega arith) (omega arith) refl,
+              part-first s (o + 2) (o + 3) 9 10 0 (omega arith) (omega arith) refl,
+              part-first s (o + 1) (o + 2) 10 11 0 (omega arith) (omega arith) refl,
             )
-            (first s bytes o (o + 1) 11 n (omega arith) refl (omega arith));
+            (part-first s o (o + 1) 11 n 0 (omega arith) refl (omega arith));
       }
 
   router-info : Goal 2
@@ -168,14 +148,14 @@ module _ (s : List ℕ) (bytes : Bytes s) (o z : ℕ) where
         is-size = omega (arith, g .1);
         no-fault = ne-eqb (length (part s (o + 2) (n - 2))) 0 (λ x. omega (arith, g .0, g .1));
         is-bytes =
-            rw (first s bytes (o + 1) (o + 2) (n - 2) (n - 1) (omega (arith, g .1)) (omega arith) (omega (arith, g .1))) (first s bytes o (o + 1) (n - 1) n (omega (arith, g .1)) refl (omega (arith, g .1)));
+            rw (part-first s (o + 1) (o + 2) (n - 2) (n - 1) 0 (omega (arith, g .1)) (omega arith) (omega (arith, g .1))) (part-first s o (o + 1) (n - 1) n 0 (omega (arith, g .1)) refl (omega (arith, g .1)));
       }
 
   -- type, id, expiration, bytes: I2NP, FirstFragment
   message : (n : ℕ) → o + n ≤ length s → 9 ≤ n → getD s o 0 ∷ (bigBytes 4 (bigAt 4 s (o + 1)) ++ bigBytes 4 (bigAt 4 s (o + 5)) ++ part s (o + 9) (n - 9)) ≡ part s o n
   message n h g =
-      rw (again s bytes 4 (o + 1) (omega arith), again s bytes 4 (o + 5) (omega arith), join s bytes (o + 1) 4 (o + 5) 4 8 (omega arith) refl, join s bytes (o + 1) 8 (o + 9) (n - 9) (n - 1) (omega arith) (omega arith))
-      (first s bytes o (o + 1) (n - 1) n (omega arith) refl (omega arith))
+      rw (bigAt-again 4 s (o + 1) (omega arith) bytes, bigAt-again 4 s (o + 5) (omega arith) bytes, part-join s (o + 1) 4 (o + 5) 4 8 (omega arith) refl, part-join s (o + 1) 8 (o + 9) (n - 9) (n - 1) (omega arith) (omega arith))
+      (part-first s o (o + 1) (n - 1) n 0 (omega arith) refl (omega arith))
 
   i2np-message : Goal 3
   unfolding takenAt blockAt faulty
@@ -209,8 +189,8 @@ module _ (s : List ℕ) (bytes : Bytes s) (o z : ℕ) where
         no-fault =
             rw (ne-eqb (length (part s (o + 5) (n - 5))) 0 (λ x. omega (arith, g .0, g .1)), le-ltb 127 (getD s o 0 / 2) (omega arith));
         is-bytes =
-            rw (follow-byte (getD s o 0) v, again s bytes 4 (o + 1) (omega (arith, g .0, g .1)), join s bytes (o + 1) 4 (o + 5) (n - 5) (n - 1) (omega arith) (omega (arith, g .0, g .1)))
-            (first s bytes o (o + 1) (n - 1) n (omega (arith, g .0, g .1)) refl (omega (arith, g .0, g .1)));
+            rw (follow-byte (getD s o 0) v, bigAt-again 4 s (o + 1) (omega (arith, g .0, g .1)) bytes, part-join s (o + 1) 4 (o + 5) (n - 5) (n - 1) (omega arith) (omega (arith, g .0, g .1)))
+            (part-first s o (o + 1) (n - 1) n 0 (omega (arith, g .0, g .1)) refl (omega (arith, g .0, g .1)));
       }
 
   termination : Goal 6
@@ -222,7 +202,7 @@ module _ (s : List ℕ) (bytes : Bytes s) (o z : ℕ) where
         is-size = t;
         no-fault = refl;
         is-bytes =
-            rw (again s bytes 8 o (omega arith), one s bytes (o + 8) (omega arith), append-nil (part s o 8 ++ part s (o + 8) 1)) (join s bytes o 8 (o + 8) 1 n refl (sym t));
+            rw (bigAt-again 8 s o (omega arith) bytes, part-one s (o + 8) 0 (omega arith), append-nil (part s o 8 ++ part s (o + 8) 1)) (part-join s o 8 (o + 8) 1 n refl (sym t));
       }
 
   ack : Goal 12
@@ -236,7 +216,7 @@ module _ (s : List ℕ) (bytes : Bytes s) (o z : ℕ) where
         is-size = omega arith;
         no-fault = rw p (ne-eqb (pairsIn z % 2) 1 (λ x. omega (arith, even-pairs z)));
         is-bytes =
-            rw (again s bytes 4 o (omega arith), one s bytes (o + 4) (omega arith), join s bytes o 4 (o + 4) 1 5 refl refl) (join s bytes o 5 (o + 5) (n - 5) n refl (omega arith));
+            rw (bigAt-again 4 s o (omega arith) bytes, part-one s (o + 4) 0 (omega arith), part-join s o 4 (o + 4) 1 5 refl refl) (part-join s o 5 (o + 5) (n - 5) n refl (omega arith));
       }
 
   an-address : Goal 13
@@ -251,14 +231,14 @@ module _ (s : List ℕ) (bytes : Bytes s) (o z : ℕ) where
         no-fault =
             ⊎-elim (λ x. let y : length (part s (o + 2) (n - 2)) ≡ 4 = omega arith in rw y) (λ x. let y : length (part s (o + 2) (n - 2)) ≡ 16 = omega arith in rw y) g;
         is-bytes =
-            rw (again s bytes 2 o (omega arith)) (join s bytes o 2 (o + 2) (n - 2) n refl (omega arith));
+            rw (bigAt-again 2 s o (omega arith) bytes) (part-join s o 2 (o + 2) (n - 2) n refl (omega arith));
       }
 
   relay-tag-request : Goal 15
-  unfolding takenAt blockAt faulty part
+  unfolding takenAt blockAt faulty
   relay-tag-request n h e q =
       let g : 0 ≡ n = given (fits {P = λ m. 0 ≡ m} 0 (length s - o) refl) e in
-      record { is-kind = refl; is-size = g; no-fault = refl; is-bytes = ap (λ (i : ℕ). take i (drop o s)) g }
+      record { is-kind = refl; is-size = g; no-fault = refl; is-bytes = sym (part-none s o) ∙ ap (part s o) g }
 
   relay-tag : Goal 16
   unfolding takenAt blockAt faulty
@@ -273,7 +253,7 @@ module _ (s : List ℕ) (bytes : Bytes s) (o z : ℕ) where
         is-size = t;
         no-fault = refl;
         is-bytes =
-            rw (again s bytes 4 o (omega arith), again s bytes 8 (o + 4) (omega arith), append-nil (part s o 4 ++ part s (o + 4) 8)) (join s bytes o 4 (o + 4) 8 n refl (sym t));
+            rw (bigAt-again 4 s o (omega arith) bytes, bigAt-again 8 s (o + 4) (omega arith) bytes, append-nil (part s o 4 ++ part s (o + 4) 8)) (part-join s o 4 (o + 4) 8 n refl (sym t));
       }
 
   first-packet-number : Goal 20
@@ -284,7 +264,7 @@ module _ (s : List ℕ) (bytes : Bytes s) (o z : ℕ) where
   unfolding takenAt blockAt faulty
   congestion n h e q =
       let t : 1 ≡ n = given (fits {P = λ m. 1 ≡ m} 1 (length s - o) refl) e in
-      record { is-kind = refl; is-size = t; no-fault = refl; is-bytes = one s bytes o (omega arith) ∙ ap (part s o) t }
+      record { is-kind = refl; is-size = t; no-fault = refl; is-bytes = part-one s o 0 (omega arith) ∙ ap (part s o) t }
 
   -- size bytes
   path-challenge : Goal 18
@@ -348,7 +328,7 @@ took s at k z next e = whole (leb (at + 3) (length s)) e
     whole false f = let o : _≡_ {A = ℕ} 0 1 = cc in absurd (omega arith)
 
 pub read-then-write : ReadThenWrite
-unfolding roomAfter written bigAt
+unfolding roomAfter written
 read-then-write s room at z next b bytes e q fits =
     let c = comes s at z next b e in
     let d = bounded s at (c .kind) z next (c .extent) in
@@ -358,16 +338,16 @@ read-then-write s room at z next b bytes e q fits =
     let same = subst (Same s bytes (at + 3) z (c .kind) n) (c .value) (every s bytes (at + 3) z (c .kind) n (omega (arith, d .fields, d .inside)) t size) in
     let y = shown s b in
     let zn : z ≡ next - (at + 3) = q ∙ same .is-size in
-    let small : z < 65536 = subst (λ (x : ℕ). x < 65536) (d .is-size) (big-at s bytes (at + 1) (omega (arith, d .fields, d .inside))) in
+    let small : z < 65536 = subst (λ (x : ℕ). x < 65536) (d .is-size) (bigAt-lt 2 s (at + 1) (omega (arith, d .fields, d .inside)) bytes) in
     let long : 3 + sizeOf b (shown s b) ≡ next - at = omega (arith, d .fields, same .is-size) in
     let w : writing b (shown s b) (length room) ≡ Wrote.Length (3 + sizeOf b (shown s b)) = is-length b y room (same .no-fault) (omega arith) (omega arith) in
     let whole : (kindOf b ∷ []) ++ bigBytes 2 (sizeOf b y) ++ fieldBytes b ++ bytesOf b y ≡ part s at (next - at) =
     ap (λ (l : List ℕ). kindOf b ∷ l) (append-assoc (bigBytes 2 (sizeOf b y)) (fieldBytes b) (bytesOf b y))
     ∙ ap (λ (k : ℕ). k ∷ (bigBytes 2 (sizeOf b y) ++ (fieldBytes b ++ bytesOf b y))) (same .is-kind ∙ sym (d .is-kind))
     ∙ ap (λ (i : ℕ). getD s at 0 ∷ (bigBytes 2 i ++ (fieldBytes b ++ bytesOf b y))) (sym q ∙ sym (d .is-size))
-    ∙ ap (λ (l : List ℕ). getD s at 0 ∷ (l ++ (fieldBytes b ++ bytesOf b y))) (again s bytes 2 (at + 1) (omega (arith, d .fields, d .inside)))
+    ∙ ap (λ (l : List ℕ). getD s at 0 ∷ (l ++ (fieldBytes b ++ bytesOf b y))) (bigAt-again 2 s (at + 1) (omega (arith, d .fields, d .inside)) bytes)
     ∙ ap (λ (l : List ℕ). getD s at 0 ∷ (part s (at + 1) 2 ++ l)) (same .is-bytes)
-    ∙ ap (λ (l : List ℕ). getD s at 0 ∷ l) (join s bytes (at + 1) 2 (at + 3) n (2 + n) (omega arith) refl)
-    ∙ first s bytes at (at + 1) (2 + n) (next - at) (omega (arith, d .fields, d .inside)) refl (omega (arith, d .fields))
+    ∙ ap (λ (l : List ℕ). getD s at 0 ∷ l) (part-join s (at + 1) 2 (at + 3) n (2 + n) (omega arith) refl)
+    ∙ part-first s at (at + 1) (2 + n) (next - at) 0 (omega (arith, d .fields, d .inside)) refl (omega (arith, d .fields))
     in
     (w ∙ ap Wrote.Length long, ap (λ (x : Written). stored x b y room) w ∙ ap (splice room 0) whole)

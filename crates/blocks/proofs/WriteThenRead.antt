@@ -5,14 +5,14 @@ use mathlib.Core.List.{List, [], _∷_, _++_, append-assoc}
 use Prim.Native.Nat.{ℕ, suc, _+_, _-_, _*_, _/_, _%_, _^_, _<_, _≤_}
 use native.Mathlib.Omega.{arith}
 use lib.Dec.{ltb, eqb}
-use lib.ListN.{length, take, drop, getD, length-append}
-use lib.Seq.{take-at, drop-at, getD-append-add}
+use lib.ListN.{length, drop, getD, length-append}
+use lib.Seq.{getD-append-add}
 use borrow.Author.Tests.{ltb-false, eqb-true, eqb-false, le-leb, lt-leb, le-ltb, eq-eqb, ne-eqb}
 use Rattle.wire.specs.Parts.{part, splice}
-use Rattle.wire.specs.Numbers.{big, bigBytes, bigAt}
+use Rattle.wire.specs.Numbers.{bigBytes, bigAt}
 use Rattle.wire.proofs.Tests.{or-neither}
-use Rattle.wire.proofs.Parts.{length-splice, part-right}
-use Rattle.wire.proofs.Numbers.{length-big, big-back}
+use Rattle.wire.proofs.Parts.{length-splice, part-right, part-middle, splice-pieces}
+use Rattle.wire.proofs.Numbers.{length-big, bigAt-back, big-one}
 use Rattle.blocks.specs.declared.Block.{Block}
 use Rattle.blocks.specs.declared.Block.the-variants as Body
 use Rattle.blocks.specs.declared.Taken.the-variants as Take
@@ -24,7 +24,7 @@ use Rattle.blocks.specs.Reading.{bytesAt, blockAt, reading, readAt}
 use Rattle.blocks.specs.Writing.{kindOf, named, fieldBytes, fieldLength, bytesOf, sizeOf, written, faulty, writing, roomAfter}
 use Rattle.blocks.specs.Claims.{Fitting, placed, WriteThenRead}
 use Rattle.blocks.proofs.Ends.{ended}
-use Rattle.blocks.proofs.Puts.{fields-length, one-byte}
+use Rattle.blocks.proofs.Puts.{fields-length}
 use Rattle.blocks.proofs.Types.{apart}
 
 -- ---- what the writer's answer says
@@ -42,21 +42,16 @@ module _ (b : Block) (body : List ℕ) (room n : ℕ) where
 
 -- ---- a field, read where it stands: after a head of three bytes
 
-field : (a v r : List ℕ) (o n : ℕ) → length a ≡ o → length v ≡ n → part (a ++ (v ++ r)) o n ≡ v
-unfolding part
-field a v r o n l m = ap (take n) (drop-at a (v ++ r) o l) ∙ take-at v r n m
-
 module _ (w head rest : List ℕ) (is : w ≡ head ++ rest) (three : length head ≡ 3) where
   number : (n x o : ℕ) (a r : List ℕ) → x < 256 ^ n → rest ≡ a ++ (bigBytes n x ++ r) → length a ≡ o → bigAt n w (3 + o) ≡ x
-  unfolding bigAt
   number n x o a r h e l =
       let q : 3 + o ≡ length head + o = omega arith in
-      ap (λ (z : List ℕ). big (part z (3 + o) n)) is
-      ∙ ap (λ (i : ℕ). big (part (head ++ rest) i n)) q
-      ∙ ap big (part-right head rest o n)
-      ∙ ap (λ (z : List ℕ). big (part z o n)) e
-      ∙ ap big (field a (bigBytes n x) r o n l (length-big n x))
-      ∙ big-back n x h
+      bigAt-back n x w (3 + o) h
+      (ap (λ (z : List ℕ). part z (3 + o) n) is
+      ∙ ap (λ (i : ℕ). part (head ++ rest) i n) q
+      ∙ part-right head rest o n
+      ∙ ap (λ (z : List ℕ). part z o n) e
+      ∙ part-middle a (bigBytes n x) r o n l (length-big n x))
 
   byte : (x o : ℕ) (a r : List ℕ) → rest ≡ a ++ (x ∷ r) → length a ≡ o → getD w (3 + o) 0 ≡ x
   byte x o a r e l =
@@ -140,7 +135,7 @@ module _ (body tail w : List ℕ) (z : ℕ) where
       let v = m * 2 + cond l 1 0 in
       let back = follow-on-back m l (ltb-false 127 m (or-neither (eqb (length body) 0) (ltb 127 m) f .1)) in
       rw (
-        on (Body.FollowOnFragment m l i p) is ((m * 2 + cond l 1 0) % 256) 0 [] (bigBytes 4 i ++ tail) (simp (← one-byte, append-assoc)) refl,
+        on (Body.FollowOnFragment m l i p) is ((m * 2 + cond l 1 0) % 256) 0 [] (bigBytes 4 i ++ tail) (simp (big-one, append-assoc)) refl,
         at (Body.FollowOnFragment m l i p) is 4 i 1 (bigBytes 1 (m * 2 + cond l 1 0)) tail h (simp append-assoc) (length-big 1 v),
         back .0,
         back .1,
@@ -217,8 +212,8 @@ module _ (b : Block) (body room : List ℕ) where
   w = splice room 0 (written b body)
 
   starts : w ≡ (kindOf b ∷ bigBytes 2 (sizeOf b body)) ++ (fieldBytes b ++ tail)
-  unfolding splice written
-  starts = simp append-assoc
+  unfolding written
+  starts = splice-pieces room 0 (length (written b body)) (written b body) refl ∙ simp append-assoc
 
   written-length : length (written b body) ≡ 3 + sizeOf b body
   unfolding written
@@ -235,11 +230,9 @@ module _ (b : Block) (body room : List ℕ) where
     has-kind = ap (λ (l : List ℕ). getD l 0 0) starts
 
     has-size : sizeAt w 0 ≡ z
-    unfolding bigAt
     has-size =
-        ap (λ (l : List ℕ). big (part l 1 2)) starts
-        ∙ ap big (field (kindOf b ∷ []) (bigBytes 2 z) (fieldBytes b ++ tail) 1 2 refl (length-big 2 z))
-        ∙ big-back 2 z (omega arith)
+        bigAt-back 2 z w 1 (omega arith)
+        (ap (λ (l : List ℕ). part l 1 2) starts ∙ part-middle (kindOf b ∷ []) (bigBytes 2 z) (fieldBytes b ++ tail) 1 2 refl (length-big 2 z))
 
     has-extent : extentAt w 0 ≡ End.Ends (kindOf b) z (3 + z)
     has-extent =
@@ -258,7 +251,7 @@ module _ (b : Block) (body room : List ℕ) where
     shows =
         let l : length ((kindOf b ∷ bigBytes 2 z) ++ fieldBytes b) ≡ 3 + fieldLength b = simp (length-append, length-big, fields-length) (omega arith) in
         ap (λ (v : List ℕ). part v (3 + fieldLength b) (length (bytesOf b body))) (starts ∙ sym (append-assoc (kindOf b ∷ bigBytes 2 z) (fieldBytes b) tail))
-        ∙ field ((kindOf b ∷ bigBytes 2 z) ++ fieldBytes b) (bytesOf b body) (drop (0 + length (written b body)) room) (3 + fieldLength b) (length (bytesOf b body)) l refl
+        ∙ part-middle ((kindOf b ∷ bigBytes 2 z) ++ fieldBytes b) (bytesOf b body) (drop (0 + length (written b body)) room) (3 + fieldLength b) (length (bytesOf b body)) l refl
 
 pub write-then-read : WriteThenRead
 unfolding roomAfter

@@ -4,20 +4,14 @@ use mathlib.Core.List.{List}
 use mathlib.Core.Logic.{inl, inr}
 use Prim.Native.Nat.{ℕ, _+_, _-_, _≤_}
 use native.Mathlib.Omega.{arith}
-use lib.ListN.{length, getD, take, drop, replicate}
+use lib.ListN.{length, getD, drop, replicate}
 use Rattle.wire.specs.Parts.{part, splice}
-use Rattle.wire.proofs.Parts.{getD-part, splice-all, splice-front, length-part}
+use Rattle.wire.proofs.Parts.{getD-part, splice-front}
 use Rattle.keystream.specs.Chacha.{block}
 use Rattle.keystream.specs.Mask.{masked}
 use Rattle.keystream.proofs.Masks.{length-masked, masked-other, masked-twice, masked-none, masked-drop, masked-front, masked-swap}
 use Rattle.header.specs.Kinds.{longOf}
 use Rattle.header.specs.Unmasking.{stream, nonce1, nonce2, front, rest, typeOf}
-
--- n bytes from a place on, copied over as many others
-pub copied : (o p : List ℕ) {x : List ℕ} (at m n : ℕ) → m ≡ n → at + n ≤ length p → length o ≡ n → x ≡ splice o 0 (take m (drop at p)) → x ≡ part p at n
-unfolding part
-copied o p at m n em h lo e =
-    e ∙ ap (λ (z : ℕ). splice o 0 (take z (drop at p))) em ∙ splice-all o (part p at n) (length-part p at n h ∙ sym lo)
 
 module _ (k1 k2 p : List ℕ) (h : 40 ≤ length p) where
   s1 : List ℕ

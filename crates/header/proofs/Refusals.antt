@@ -9,7 +9,8 @@ use lib.ListN.{getD}
 use borrow.Author.Tests.{ltb-false, not-false}
 use Rattle.wire.specs.Parts.{part}
 use Rattle.wire.specs.Numbers.{bigAt}
-use Rattle.wire.proofs.Parts.{getD-part, part-part}
+use Rattle.wire.proofs.Parts.{getD-part}
+use Rattle.wire.proofs.Numbers.{bigAt-part}
 use Rattle.header.specs.declared.Fields.{Fields}
 use Rattle.header.specs.Kinds.{isKeyed, isShort, isListed, isVersion, longOf, needOf}
 use Rattle.header.specs.Unmasking.{typeOf}
@@ -28,9 +29,9 @@ nibbles-first f n t z e = rw (t, z, e)
 
 -- the first 16 bytes are enough to judge by
 pub refusal-front : (q : List ℕ) (n : ℕ) → refusalOf (part q 0 16) n ≡ refusalOf q n
-unfolding refusalOf bigAt
+unfolding refusalOf
 refusal-front q n =
-    rw (getD-part q 0 16 12 0 (omega arith), getD-part q 0 16 13 0 (omega arith), part-part q 0 16 8 4 (omega arith))
+    rw (getD-part q 0 16 12 0 (omega arith), getD-part q 0 16 13 0 (omega arith), bigAt-part 4 q 0 16 8 (omega arith))
 
 -- what each test of reading gave, where there is no refusal
 pub record Taken (q : List ℕ) (n : ℕ) : Type 0 where

@@ -1,17 +1,18 @@
 -- The two round trips. Assumes nothing.
 use mathlib.Core.Path.{_≡_, refl, sym, ap, ap₂, _∙_}
 use mathlib.Core.Bool.{Bool, true, false, cond, _&&_, _||_, not, false≢true}
-use mathlib.Core.List.{List, [], _∷_, _++_}
+use mathlib.Core.List.{List, [], _∷_, _++_, append-assoc, append-nil}
 use Prim.Native.Nat.{ℕ, zero, suc, _+_, _/_, _%_, _^_, _≤_, _<_}
 use native.Mathlib.Omega.{arith}
 use lib.Dec.{eqb, ltb}
 use lib.ListN.{length, getD, replicate, length-append}
+use lib.Seq.{getD-append-add}
 use borrow.Author.Tests.{eqb-true, ltb-false, le-ltb}
 use Rattle.wire.specs.Parts.{part, splice}
-use Rattle.wire.specs.Numbers.{Bytes, little, big, littleAt, bigAt, littleBytes, bigBytes}
+use Rattle.wire.specs.Numbers.{Bytes, littleAt, bigAt, littleBytes, bigBytes}
 use Rattle.wire.proofs.Tests.{or-neither}
-use Rattle.wire.proofs.Parts.{length-splice, getD-part, part-left, part-right, part-within, part-add, part-reads, splice-part}
-use Rattle.wire.proofs.Numbers.{little-back, big-back, littleAt-again, bigAt-again}
+use Rattle.wire.proofs.Parts.{length-splice, getD-part, part-left, part-right, part-middle, part-within, part-add, part-reads, splice-part}
+use Rattle.wire.proofs.Numbers.{length-little, length-big, littleAt-back, bigAt-back, littleAt-again, bigAt-again}
 use Rattle.keystream.specs.Chacha.{block}
 use Rattle.keystream.specs.Mask.{masked}
 use Rattle.keystream.proofs.Masks.{bytes-masked, bytes-block}
@@ -40,33 +41,58 @@ head-front f o n h = by (isShort (f .kind))
     by false = part-left (frontBytes f) (idBytes f) o n (omega (arith, length-frontBytes f))
 
 length-head : (f : Fields) → (16 ≤ length (headBytes f)) × (length (headBytes f) ≤ 32)
-unfolding headBytes frontBytes idBytes littleBytes bigBytes
+unfolding headBytes
 length-head f = by (isShort (f .kind))
   where
     by : (s : Bool) → (16 ≤ length (cond s (frontBytes f) (frontBytes f ++ idBytes f))) × (length (cond s (frontBytes f) (frontBytes f ++ idBytes f)) ≤ 32)
-    by true = (omega arith, omega arith)
-    by false = (omega arith, omega arith)
+    by true = (omega (arith, length-frontBytes f), omega (arith, length-frontBytes f))
+    by false =
+        let e : length (frontBytes f ++ idBytes f) ≡ 32 = length-append (frontBytes f) (idBytes f) ∙ omega (arith, length-frontBytes f, length-idBytes f) in
+        (omega arith, omega arith)
 
 head-long : (f : Fields) → isShort (f .kind) ≡ false → headBytes f ≡ frontBytes f ++ idBytes f
 unfolding headBytes
 head-long f e = rw e
 
 -- the fields' bytes in them
-first-8 : (f : Fields) → part (frontBytes f) 0 8 ≡ littleBytes 8 (f .destination)
-unfolding frontBytes littleBytes bigBytes part
-first-8 f = refl
+module _ (f : Fields) where
+  abbrev destination8 : List ℕ
+  destination8 = littleBytes 8 (f .destination)
 
-next-4 : (f : Fields) → part (frontBytes f) 8 4 ≡ bigBytes 4 (f .number)
-unfolding frontBytes littleBytes bigBytes part
-next-4 f = refl
+  abbrev number4 : List ℕ
+  number4 = bigBytes 4 (f .number)
 
-source-8 : (f : Fields) → part (idBytes f) 0 8 ≡ littleBytes 8 (f .source)
-unfolding idBytes littleBytes part
-source-8 f = refl
+  abbrev kind4 : List ℕ
+  kind4 = f .kind ∷ byte13 f ∷ byte14 f ∷ 0 ∷ []
 
-token-8 : (f : Fields) → part (idBytes f) 8 8 ≡ littleBytes 8 (f .token)
-unfolding idBytes littleBytes part
-token-8 f = refl
+  first-8 : part (frontBytes f) 0 8 ≡ littleBytes 8 (f .destination)
+  unfolding frontBytes
+  first-8 =
+      ap (λ (z : List ℕ). part z 0 8) (append-assoc destination8 number4 kind4)
+      ∙ part-middle [] destination8 (number4 ++ kind4) 0 8 refl (length-little 8 (f .destination))
+
+  next-4 : part (frontBytes f) 8 4 ≡ bigBytes 4 (f .number)
+  unfolding frontBytes
+  next-4 =
+      ap (λ (z : List ℕ). part z 8 4) (append-assoc destination8 number4 kind4)
+      ∙ part-middle destination8 number4 kind4 8 4 (length-little 8 (f .destination)) (length-big 4 (f .number))
+
+  last-4 : (i : ℕ) → getD (frontBytes f) (12 + i) 0 ≡ getD kind4 i 0
+  unfolding frontBytes
+  last-4 i =
+      let twelve : length (destination8 ++ number4) ≡ 12 = simp (length-append, length-little, length-big) in
+      ap (λ (k : ℕ). getD (destination8 ++ number4 ++ kind4) (k + i) 0) (sym twelve)
+      ∙ getD-append-add (destination8 ++ number4) kind4 i 0
+
+  source-8 : part (idBytes f) 0 8 ≡ littleBytes 8 (f .source)
+  unfolding idBytes
+  source-8 = part-middle [] (littleBytes 8 (f .source)) (littleBytes 8 (f .token)) 0 8 refl (length-little 8 (f .source))
+
+  token-8 : part (idBytes f) 8 8 ≡ littleBytes 8 (f .token)
+  unfolding idBytes
+  token-8 =
+      ap (λ (z : List ℕ). part (littleBytes 8 (f .source) ++ z) 8 8) (sym (append-nil (littleBytes 8 (f .token))))
+      ∙ part-middle (littleBytes 8 (f .source)) (littleBytes 8 (f .token)) [] 8 8 (length-little 8 (f .source)) (length-little 8 (f .token))
 
 module _ (f : Fields) (p : List ℕ) (h : 32 ≤ length p) where
   fits : 0 + length (headBytes f) ≤ length p
@@ -95,24 +121,19 @@ module _ (f : Fields) (p : List ℕ) (h : 32 ≤ length p) where
       ∙ ap (λ (k : ℕ). getD (frontBytes f) k 0) (sym z)
 
   type-plain : typeOf (plain f p) ≡ f .kind
-  unfolding frontBytes littleBytes bigBytes
-  type-plain = byte-plain 12 (omega arith)
+  type-plain = byte-plain 12 (omega arith) ∙ last-4 f 0
 
   plain-13 : getD (plain f p) 13 0 ≡ byte13 f
-  unfolding frontBytes littleBytes bigBytes
-  plain-13 = byte-plain 13 (omega arith)
+  plain-13 = byte-plain 13 (omega arith) ∙ last-4 f 1
 
   plain-14 : getD (plain f p) 14 0 ≡ byte14 f
-  unfolding frontBytes littleBytes bigBytes
-  plain-14 = byte-plain 14 (omega arith)
+  plain-14 = byte-plain 14 (omega arith) ∙ last-4 f 2
 
   plain-destination : f .destination < 2 ^ 64 → littleAt 8 (plain f p) 0 ≡ f .destination
-  unfolding littleAt
-  plain-destination g = ap little (part-plain 0 8 (omega arith) ∙ first-8 f) ∙ little-back 8 (f .destination) g
+  plain-destination g = littleAt-back 8 (f .destination) (plain f p) 0 g (part-plain 0 8 (omega arith) ∙ first-8 f)
 
   plain-number : f .number < 2 ^ 32 → bigAt 4 (plain f p) 8 ≡ f .number
-  unfolding bigAt
-  plain-number g = ap big (part-plain 8 4 (omega arith) ∙ next-4 f) ∙ big-back 4 (f .number) g
+  plain-number g = bigAt-back 4 (f .number) (plain f p) 8 g (part-plain 8 4 (omega arith) ∙ next-4 f)
 
   -- a part of the next 16 bytes, where there are such
   part-ids : isShort (f .kind) ≡ false → (o n : ℕ) → o + n ≤ 16 → part (plain f p) (16 + o) n ≡ part (idBytes f) o n
@@ -127,12 +148,10 @@ module _ (f : Fields) (p : List ℕ) (h : 32 ≤ length p) where
       ∙ part-right (frontBytes f) (idBytes f) o n
 
   plain-source : isShort (f .kind) ≡ false → f .source < 2 ^ 64 → littleAt 8 (plain f p) 16 ≡ f .source
-  unfolding littleAt
-  plain-source e g = ap little (part-ids e 0 8 (omega arith) ∙ source-8 f) ∙ little-back 8 (f .source) g
+  plain-source e g = littleAt-back 8 (f .source) (plain f p) 16 g (part-ids e 0 8 (omega arith) ∙ source-8 f)
 
   plain-token : isShort (f .kind) ≡ false → f .token < 2 ^ 64 → littleAt 8 (plain f p) 24 ≡ f .token
-  unfolding littleAt
-  plain-token e g = ap little (part-ids e 8 8 (omega arith) ∙ token-8 f) ∙ little-back 8 (f .token) g
+  plain-token e g = littleAt-back 8 (f .token) (plain f p) 24 g (part-ids e 8 8 (omega arith) ∙ token-8 f)
 
 -- ---- what the fields are, by type
 

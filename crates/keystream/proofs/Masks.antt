@@ -1,18 +1,17 @@
 -- Laws of the mask, each once over place and length: a turn of its loop, what it leaves, and that twice is not at all. Assumes nothing.
 use mathlib.Core.Path.{_≡_, refl, sym, ap, ap₂, _∙_}
-use mathlib.Core.List.{List, [], _∷_, _++_, append-assoc}
+use mathlib.Core.List.{List, [], _∷_, _++_}
 use mathlib.Core.Logic.{_⊎_, inl, inr, ⊎-elim}
 use Prim.Native.Nat.{ℕ, zero, suc, _+_, _-_, _<_, _≤_}
 use native.Mathlib.Nat.{add-zero}
 use native.Mathlib.Omega.{arith}
 use lib.Bits.{bitXor, xor-lt}
 use lib.ListN.{length, getD, set, take, drop, take-append-drop}
-use lib.Seq.{getD-drop}
 use borrow.Rule.Slice.PartMut.{putMid, midOf}
 use Rattle.wire.specs.Parts.{part, splice}
 use Rattle.wire.specs.Numbers.{Bytes}
-use Rattle.wire.proofs.Parts.{length-part, length-splice, part-same, part-other, part-part, part-inside, drop-after, splice-over, splice-part, splice-swap}
-use Rattle.wire.proofs.Numbers.{bytes-append, bytes-part}
+use Rattle.wire.proofs.Parts.{part-is, part-none, length-part, length-splice, part-same, part-other, part-part, part-inside, drop-after, splice-pieces, splice-over, splice-part, splice-swap}
+use Rattle.wire.proofs.Numbers.{bytes-append, bytes-take, bytes-drop, bytes-part}
 use Rattle.wire.proofs.Lent.{lent-part}
 use Rattle.keystream.specs.Chacha.{block, addWords, rounds, initial}
 use Rattle.keystream.specs.Mask.{xorWith, masked}
@@ -58,20 +57,16 @@ xor-twice (a ∷ l) (b ∷ k) = ap₂ (λ (x : ℕ) (m : List ℕ). x ∷ m) (bi
 
 -- as a splice, where the range lies in the list
 masked-splice : (l k : List ℕ) (from n : ℕ) → from + n ≤ length l → masked l from n k ≡ splice l from (xorWith (part l from n) k)
-unfolding masked splice
+unfolding masked
 masked-splice l k from n h =
-    let x = xorWith (part l from n) k in
-    let lx : length x ≡ n = length-xor (part l from n) k ∙ length-part l from n h in
-    sym (append-assoc (take from l) x (drop (from + n) l))
-    ∙ ap (λ (m : ℕ). take from l ++ x ++ drop (from + m) l) (sym lx)
+    sym (splice-pieces l from n (xorWith (part l from n) k) (length-xor (part l from n) k ∙ length-part l from n h))
 
 -- a part that was lent from a to e, XORed and put back
 pub masked-lent : (l : List ℕ) {k k′ ys : List ℕ} (a e n : ℕ) → a + n ≤ length l → e ≡ a + n → k′ ≡ k → ys ≡ xorWith (midOf a (e - a) l) k′ → putMid a (e - a) l ys ≡ masked l a n k
-unfolding part
 masked-lent l {k} {k′} {ys} a e n h q ek ey =
     let m : e - a ≡ n = omega arith in
     let lx : length (xorWith (part l a n) k′) ≡ n = length-xor (part l a n) k′ ∙ length-part l a n h in
-    let ez : ys ≡ xorWith (part l a n) k′ = ey ∙ ap (λ (z : ℕ). xorWith (part l a z) k′) m in
+    let ez : ys ≡ xorWith (part l a n) k′ = ey ∙ ap (λ (z : List ℕ). xorWith z k′) (ap (λ (i : ℕ). midOf a i l) m ∙ part-is l a n) in
     let ly : length ys ≡ e - a = ap length ez ∙ lx ∙ sym m in
     lent-part l a e ys (omega arith) ly
     ∙ ap (splice l a) (ez ∙ ap (xorWith (part l a n)) ek)
@@ -123,8 +118,8 @@ masked-twice l k from n fits =
 
 -- no bytes: nothing changes
 pub masked-none : (l k : List ℕ) (from : ℕ) → masked l from 0 k ≡ l
-unfolding masked xorWith part
-masked-none l k from = rw add-zero (take-append-drop from l)
+unfolding masked xorWith
+masked-none l k from = rw (part-none, add-zero) (take-append-drop from l)
 
 -- what follows the range is as it was
 pub masked-drop : (l k : List ℕ) (from n p : ℕ) → from + n ≤ length l → from + n ≤ p → drop p (masked l from n k) ≡ drop p l
@@ -175,11 +170,10 @@ bytes-xor (a ∷ l) (b ∷ k) hl hk zero = xor-lt 8 a b (hl zero) (hk zero)
 bytes-xor (a ∷ l) (b ∷ k) hl hk (suc i) = bytes-xor l k (λ j. hl (suc j)) (λ j. hk (suc j)) i
 
 pub bytes-masked : (l k : List ℕ) (from n : ℕ) → Bytes l → Bytes k → Bytes (masked l from n k)
-unfolding masked part
+unfolding masked
 bytes-masked l k from n hl hk =
-    bytes-append (take from l) (xorWith (part l from n) k ++ drop (from + n) l) (bytes-part l 0 from hl)
-    (bytes-append (xorWith (part l from n) k) (drop (from + n) l) (bytes-xor (part l from n) k (bytes-part l from n hl) hk)
-    (λ i. rw getD-drop (hl (from + n + i))))
+    bytes-append (take from l) (xorWith (part l from n) k ++ drop (from + n) l) (bytes-take from l hl)
+    (bytes-append (xorWith (part l from n) k) (drop (from + n) l) (bytes-xor (part l from n) k (bytes-part l from n hl) hk) (bytes-drop (from + n) l hl))
 
 pub bytes-block : (key : List ℕ) (counter : ℕ) (nonce : List ℕ) → Bytes (block key counter nonce)
 unfolding block

@@ -9,6 +9,7 @@ use lib.Seq.{take-all, take-suc, length-take-le}
 use Rattle.wire.specs.Parts.{splice}
 use Rattle.wire.specs.Numbers.{Bytes, littleAt, littleBytes}
 use Rattle.wire.proofs.Parts.{splice-join, splice-all}
+use Rattle.wire.proofs.Slices.{splice-none}
 use Rattle.wire.proofs.Numbers.{length-little, bytes-append, bytes-little}
 use Rattle.keystream.specs.declared.rounds.Quad.{Quad}
 use Rattle.keystream.specs.Chacha.{add32, quarter, quadAt, putQuad, qround, columns, diagonals, doubleRound, words, initial, addWords, serialise}
@@ -108,8 +109,8 @@ abbrev pub Filled : List ℕ → List ℕ → List ℕ → List ℕ → ℕ → 
 Filled s t o₀ o i = o ≡ splice o₀ 0 (serialise (take i (addWords s t)))
 
 pub finish-none : (s t o₀ : List ℕ) → Filled s t o₀ o₀ 0
-unfolding serialise splice
-finish-none s t o₀ = refl
+unfolding serialise
+finish-none s t o₀ = sym (splice-none o₀ 0)
 
 -- a turn of the loop over the words, and its end
 module _ (s t o₀ : List ℕ) (hs : length s ≡ 16) (ht : length t ≡ 16) (ho : length o₀ ≡ 64) where

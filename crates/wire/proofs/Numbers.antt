@@ -9,7 +9,7 @@ use lib.ListN.{length, getD, take, drop, length-reverse}
 use lib.Seq.{getD-drop}
 use Rattle.wire.specs.Parts.{part}
 use Rattle.wire.specs.Numbers.{Bytes, little, big, littleBytes, bigBytes, littleAt, bigAt}
-use Rattle.wire.proofs.Parts.{reads, part-add, part-reads, length-part}
+use Rattle.wire.proofs.Parts.{reads, part-add, part-part, part-reads, length-part}
 
 -- ---- a number at a place is that of the part there
 
@@ -28,18 +28,18 @@ bytes-append [] b ha hb i = hb i
 bytes-append (x ∷ a) b ha hb zero = ha zero
 bytes-append (x ∷ a) b ha hb (suc i) = bytes-append a b (λ j. ha (suc j)) hb i
 
+pub bytes-take : (n : ℕ) (l : List ℕ) → Bytes l → Bytes (take n l)
+bytes-take zero l h i = omega arith
+bytes-take (suc n) [] h i = omega arith
+bytes-take (suc n) (x ∷ l) h zero = h zero
+bytes-take (suc n) (x ∷ l) h (suc i) = bytes-take n l (λ j. h (suc j)) i
+
+pub bytes-drop : (o : ℕ) (l : List ℕ) → Bytes l → Bytes (drop o l)
+bytes-drop o l h i = rw getD-drop (h (o + i))
+
 pub bytes-part : (l : List ℕ) (o n : ℕ) → Bytes l → Bytes (part l o n)
 unfolding part
-bytes-part l o n h = taken n (drop o l) (dropped o l h)
-  where
-    taken : (n : ℕ) (l : List ℕ) → Bytes l → Bytes (take n l)
-    taken zero l h i = omega arith
-    taken (suc n) [] h i = omega arith
-    taken (suc n) (x ∷ l) h zero = h zero
-    taken (suc n) (x ∷ l) h (suc i) = taken n l (λ j. h (suc j)) i
-
-    dropped : (o : ℕ) (l : List ℕ) → Bytes l → Bytes (drop o l)
-    dropped o l h i = rw getD-drop (h (o + i))
+bytes-part l o n h = bytes-take n (drop o l) (bytes-drop o l h)
 
 bytes-one : {x : ℕ} → x < 256 → Bytes (x ∷ [])
 bytes-one h zero = h
@@ -78,6 +78,11 @@ pub big-lt : (l : List ℕ) → Bytes l → big l < 256 ^ length l
 unfolding big
 big-lt l h = subst (λ (n : ℕ). little (reverse l) < 256 ^ n) (length-reverse l) (little-lt (reverse l) (bytes-reverse l h))
 
+pub bigAt-lt : (n : ℕ) (l : List ℕ) (o : ℕ) → o + n ≤ length l → Bytes l → bigAt n l o < 256 ^ n
+unfolding bigAt
+bigAt-lt n l o h b =
+    subst (λ (k : ℕ). big (part l o n) < 256 ^ k) (length-part l o n h) (big-lt (part l o n) (bytes-part l o n b))
+
 -- ---- put and read, read and put
 
 -- a number that n bytes hold, put in n bytes and read
@@ -91,6 +96,15 @@ little-back (suc n) x h =
 pub big-back : (n x : ℕ) → x < 256 ^ n → big (bigBytes n x) ≡ x
 unfolding big bigBytes
 big-back n x h = ap little (reverse-reverse (littleBytes n x)) ∙ little-back n x h
+
+-- a number whose bytes stand at a place, read there
+pub littleAt-back : (n x : ℕ) (l : List ℕ) (o : ℕ) → x < 256 ^ n → part l o n ≡ littleBytes n x → littleAt n l o ≡ x
+unfolding littleAt
+littleAt-back n x l o h e = ap little e ∙ little-back n x h
+
+pub bigAt-back : (n x : ℕ) (l : List ℕ) (o : ℕ) → x < 256 ^ n → part l o n ≡ bigBytes n x → bigAt n l o ≡ x
+unfolding bigAt
+bigAt-back n x l o h e = ap big e ∙ big-back n x h
 
 -- bytes, read and put in as many
 pub little-again : (l : List ℕ) → Bytes l → littleBytes (length l) (little l) ≡ l
@@ -141,6 +155,11 @@ bigAt-add m n l o h =
     ∙ big-append (part l o m) (part l (o + m) n)
     ∙ ap (λ (k : ℕ). big (part l o m) * 256 ^ k + big (part l (o + m) n)) (length-part l (o + m) n h)
 
+-- a number in a part
+pub bigAt-part : (m : ℕ) (l : List ℕ) (o n p : ℕ) → p + m ≤ n → bigAt m (part l o n) p ≡ bigAt m l (o + p)
+unfolding bigAt
+bigAt-part m l o n p h = ap big (part-part l o n p m h)
+
 -- the high bytes of a number do not reach its low ones
 pub little-mod : (n x : ℕ) → littleBytes n (x % 256 ^ n) ≡ littleBytes n x
 unfolding littleBytes
@@ -178,7 +197,11 @@ pub bigAt-reads : (n : ℕ) (l : List ℕ) (o : ℕ) → o + suc n ≤ length l 
 unfolding bigAt
 bigAt-reads n l o h = ap big (part-reads l o n 0 h)
 
--- ---- the bytes of a number that two and four bytes hold, by division
+-- ---- the byte of a number that is put in one, and the bytes of one that two and four hold, by division
+
+pub big-one : (x : ℕ) → bigBytes 1 x ≡ x % 256 ∷ []
+unfolding bigBytes littleBytes
+big-one x = refl
 
 pub little-two : (x : ℕ) → x < 256 ^ 2 → littleBytes 2 x ≡ x % 256 ∷ x / 256 ∷ []
 unfolding littleBytes

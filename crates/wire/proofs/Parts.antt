@@ -41,6 +41,11 @@ module _ {A : Type 0} where
   unfolding part
   part-all l n h = take-all n l h
 
+  -- the part that is nothing
+  pub part-none : (l : List A) (o : ℕ) → part l o 0 ≡ []
+  unfolding part
+  part-none l o = refl
+
   -- a part that runs past the end is what is there
   pub part-cut : (l : List A) (o n : ℕ) → length l ≤ o + n → part l o n ≡ drop o l
   unfolding part
@@ -50,6 +55,10 @@ module _ {A : Type 0} where
   pub part-add : (l : List A) (o m n : ℕ) → part l o (m + n) ≡ part l o m ++ part l (o + m) n
   unfolding part
   part-add l o m n = take-add m n (drop o l) ∙ ap (λ (z : List A). take m (drop o l) ++ take n z) (drop-drop m o l)
+
+  -- the same, given where the second starts and how long both are
+  pub part-join : (l : List A) (a m b n k : ℕ) → b ≡ a + m → k ≡ m + n → part l a m ++ part l b n ≡ part l a k
+  part-join l a m b n k e f = ap (λ (i : ℕ). part l a m ++ part l i n) e ∙ sym (part-add l a m n) ∙ ap (part l a) (sym f)
 
   -- a part of a part
   pub part-part : (l : List A) (o n p m : ℕ) → p + m ≤ n → part (part l o n) p m ≡ part l (o + p) m
@@ -69,6 +78,17 @@ module _ {A : Type 0} where
   unfolding part
   part-cons l o n d h = ap (take (suc n)) (drop-cons l o d h)
 
+  -- the same, given where the others start and how many all are
+  pub part-first : (l : List A) (o p m n : ℕ) (d : A) → o < length l → p ≡ o + 1 → n ≡ 1 + m → getD l o d ∷ part l p m ≡ part l o n
+  part-first l o p m n d h e f =
+      let q : p ≡ suc o = omega arith in
+      let r : suc m ≡ n = omega arith in
+      ap (λ (i : ℕ). getD l o d ∷ part l i m) q ∙ sym (part-cons l o m d h) ∙ ap (part l o) r
+
+  -- one element is a part
+  pub part-one : (l : List A) (o : ℕ) (d : A) → o < length l → getD l o d ∷ [] ≡ part l o 1
+  part-one l o d h = sym (part-cons l o 0 d h ∙ ap (λ (z : List A). getD l o d ∷ z) (part-none l (suc o)))
+
   -- a part within the first of two lists
   pub part-left : (a b : List A) (p n : ℕ) → p + n ≤ length a → part (a ++ b) p n ≡ part a p n
   unfolding part
@@ -80,6 +100,17 @@ module _ {A : Type 0} where
   pub part-right : (a b : List A) (p n : ℕ) → part (a ++ b) (length a + p) n ≡ part b p n
   unfolding part
   part-right a b p n = ap (take n) (drop-append-add a b p)
+
+  -- the middle one of three lists
+  pub part-middle : (a v r : List A) (o n : ℕ) → length a ≡ o → length v ≡ n → part (a ++ (v ++ r)) o n ≡ v
+  unfolding part
+  part-middle a v r o n l m = ap (take n) (drop-at a (v ++ r) o l) ∙ take-at v r n m
+
+  -- a splice in three: what stands before, the n elements that were put, what follows them
+  pub splice-pieces : (l : List A) (o n : ℕ) (v : List A) → length v ≡ n → splice l o v ≡ take o l ++ (v ++ drop (o + n) l)
+  unfolding splice
+  splice-pieces l o n v e =
+      append-assoc (take o l) v (drop (o + length v) l) ∙ ap (λ (k : ℕ). take o l ++ (v ++ drop (o + k) l)) e
 
   module _ (l : List A) (o : ℕ) (v : List A) (fits : o + length v ≤ length l) where
     head-length : length (take o l ++ v) ≡ o + length v
@@ -146,6 +177,12 @@ module _ {A : Type 0} where
   pub splice-then : (l : List A) (o : ℕ) (v w : List A) {m n : List A} → o + length v + length w ≤ length l → m ≡ splice l o v → n ≡ splice m (o + length v) w → n ≡ splice l o (v ++ w)
   splice-then l o v w h p q = q ∙ ap (λ (z : List A). splice z (o + length v) w) p ∙ splice-join l o v w h
 
+  -- the same where the run is k long, and how long it is then
+  pub puts : (l : List A) (o k j p : ℕ) (v w : List A) {m n : List A} → length v ≡ k → length w ≡ j → p ≡ o + k → o + k + j ≤ length l → m ≡ splice l o v → n ≡ splice m p w → (n ≡ splice l o (v ++ w)) × (length (v ++ w) ≡ k + j)
+  puts l o k j p v w {m} {n} hv hw hp fits e f =
+      let q : p ≡ o + length v = omega arith in
+      (splice-then l o v w (omega arith) e (f ∙ ap (λ (z : ℕ). splice m z w) q), omega (arith, length-append v w))
+
   -- what was put inside of a part, said of the whole
   pub splice-inside : (l : List A) (a n o : ℕ) (v : List A) → a + n ≤ length l → o + length v ≤ n → splice l a (splice (part l a n) o v) ≡ splice l (a + o) v
   unfolding splice part
@@ -199,6 +236,12 @@ module _ {A : Type 0} where
   splice-all l v e =
       let none : drop (0 + length v) l ≡ [] = drop-of-length-le l {i = 0 + length v} (omega arith) in
       rw none (append-nil v)
+
+  -- n elements from a place on, copied over as many others
+  pub copied : (o l : List A) {x : List A} (at m n : ℕ) → m ≡ n → at + n ≤ length l → length o ≡ n → x ≡ splice o 0 (take m (drop at l)) → x ≡ part l at n
+  unfolding part
+  copied o l at m n em h lo e =
+      e ∙ ap (λ (z : ℕ). splice o 0 (take z (drop at l))) em ∙ splice-all o (part l at n) (length-part l at n h ∙ sym lo)
 
   -- put twice at one place: the second stays
   pub splice-over : (l : List A) (o : ℕ) (v w : List A) → o + length v ≤ length l → length w ≡ length v → splice (splice l o v) o w ≡ splice l o w

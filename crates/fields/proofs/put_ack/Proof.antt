@@ -3,7 +3,7 @@ use mathlib.Core.List.{[], _∷_}
 use native.Mathlib.Omega.{arith}
 use Rattle.wire.proofs.Numbers.{length-big}
 use Rattle.wire.specs.Numbers.{bigBytes}
-use Rattle.blocks.proofs.Puts.{puts}
+use Rattle.wire.proofs.Parts.{puts}
 use borrow.Author.Needs.{needs}
 use Rattle.fields.proofs.put_ack.Statement.{statement}
 use Rattle.fields.proofs.put_ack.Tie as tie

@@ -1,12 +1,12 @@
-use mathlib.Core.Path.{_≡_, refl, ap, _∙_}
+use mathlib.Core.Path.{_≡_, refl, sym, ap, _∙_}
 use mathlib.Core.Bool.{cond}
 use Prim.Native.Nat.{ℕ, _+_, _*_, _%_}
 use mathlib.Core.List.{[], _∷_}
 use native.Mathlib.Omega.{arith}
-use Rattle.wire.proofs.Numbers.{length-big}
+use Rattle.wire.proofs.Numbers.{length-big, big-one}
 use Rattle.wire.specs.Numbers.{bigBytes}
 use Rattle.wire.specs.Parts.{splice}
-use Rattle.blocks.proofs.Puts.{puts, one-byte}
+use Rattle.wire.proofs.Parts.{puts}
 use borrow.Author.Needs.{needs}
 use Rattle.fields.proofs.put_follow_on.Statement.{statement}
 use Rattle.fields.proofs.put_follow_on.Tie as tie
@@ -41,7 +41,7 @@ returns c = let a = c .before .before .before .before .before .before .before .b
     let x : ℕ = a .number * 2 + cond (a .last) 1 0 in
     let e : c .before .before .before .before .before .before .before .before .wide .result * 2 + c .before .before .before .before .before .before .before .bit .result ≡ a .number * 2 + cond (a .last) 1 0 = ap (λ (z : ℕ). z * 2 + c .before .before .before .before .before .before .before .bit .result) (c .before .before .before .before .before .before .before .before .wide .ensures .0) ∙ ap (λ (z : ℕ). a .number * 2 + z) (c .before .before .before .before .before .before .before .bit .ensures .0) in
     puts l 3 1 4 4 (bigBytes 1 x) (bigBytes 4 (a .id)) (length-big 1 x) (length-big 4 (a .id)) refl (omega (arith, c .before .before .before .before .before .before .before .before .before .before .before .pre))
-    (c .before .before .before .before .before .before .put-u8 .ensures ∙ ap (λ (z : ℕ). splice l 3 (z % 256 ∷ [])) e ∙ ap (splice l 3) (one-byte x)) (c .before .before .put-u32 .ensures) .0
+    (c .before .before .before .before .before .before .put-u8 .ensures ∙ ap (λ (z : ℕ). splice l 3 (z % 256 ∷ [])) e ∙ ap (splice l 3) (sym (big-one x))) (c .before .before .put-u32 .ensures) .0
 
 pub put-follow-on-spec : {M : Type 1} → statement M
 put-follow-on-spec =

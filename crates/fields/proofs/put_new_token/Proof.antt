@@ -2,7 +2,7 @@ use mathlib.Core.Path.{refl}
 use native.Mathlib.Omega.{arith}
 use Rattle.wire.proofs.Numbers.{length-big}
 use Rattle.wire.specs.Numbers.{bigBytes}
-use Rattle.blocks.proofs.Puts.{puts}
+use Rattle.wire.proofs.Parts.{puts}
 use borrow.Author.Needs.{needs}
 use Rattle.fields.proofs.put_new_token.Statement.{statement}
 use Rattle.fields.proofs.put_new_token.Tie as tie

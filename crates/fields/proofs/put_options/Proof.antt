@@ -5,7 +5,8 @@ use Rattle.wire.proofs.Numbers.{length-big}
 use Rattle.wire.specs.Numbers.{bigBytes}
 use Rattle.wire.specs.Parts.{splice}
 use lib.ListN.{length-append}
-use Rattle.blocks.proofs.Puts.{puts, join-five}
+use Rattle.wire.proofs.Parts.{puts}
+use Rattle.blocks.proofs.Puts.{join-five}
 use borrow.Author.Needs.{needs}
 use Rattle.fields.proofs.put_options.Statement.{statement}
 use Rattle.fields.proofs.put_options.Tie as tie

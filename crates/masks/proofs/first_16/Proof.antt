@@ -1,5 +1,5 @@
 use mathlib.Core.Path.{refl}
-use Rattle.header.proofs.Fronts.{copied}
+use Rattle.wire.proofs.Parts.{copied}
 use borrow.Author.Needs.{needs}
 use Rattle.masks.proofs.first_16.Statement.{statement}
 use Rattle.masks.proofs.first_16.Tie as tie

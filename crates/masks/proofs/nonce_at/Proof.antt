@@ -1,7 +1,7 @@
 use mathlib.Core.Path.{_≡_, refl}
 use Prim.Native.Nat.{_+_, _-_}
 use native.Mathlib.Omega.{arith}
-use Rattle.header.proofs.Fronts.{copied}
+use Rattle.wire.proofs.Parts.{copied}
 use borrow.Author.Needs.{needs}
 use Rattle.masks.proofs.nonce_at.Statement.{statement}
 use Rattle.masks.proofs.nonce_at.Tie as tie

@@ -7,7 +7,8 @@ use Rattle.wire.specs.Parts.{splice}
 use Rattle.wire.specs.Numbers.{bigBytes}
 use Rattle.wire.proofs.Numbers.{length-big}
 use Rattle.blocks.specs.Writing.{kindOf, fieldLength, fieldBytes, bytesOf, written}
-use Rattle.blocks.proofs.Puts.{puts, fields-length}
+use Rattle.wire.proofs.Parts.{puts}
+use Rattle.blocks.proofs.Puts.{fields-length}
 use borrow.Author.Needs.{needs}
 use Rattle.writer.proofs.put_block.Statement.{statement}
 use Rattle.writer.proofs.put_block.Tie as tie
