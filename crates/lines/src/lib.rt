@@ -1,20 +1,23 @@
 // The lists that the check programs replay: a case a line, its fields parted by one space, bytes as hex digits.
 ghost use mathlib.Core.Path.{_≡_};
-ghost use Prim.Native.Nat.{_+_, _≤_, _<_};
-ghost use lib.ListN.{length};
+ghost use Prim.Native.Nat.{_+_, _≤_};
+ghost use lib.ListN.{length, drop};
+ghost use Rattle.lines.specs.Fields.{ends, lead, fieldAt, past, wholeUpTo};
 
 const SPACE: u8 = 32;
 
 const NEWLINE: u8 = 10;
 
-fn ends(b: u8, own: u8) -> bool {
-    b == NEWLINE || b == own
+fn ends(b: u8, own: u8) -> bool
+    ensures { λ r. ⌜ r ≡ ends own b ⌝ }
+{
+    (b == NEWLINE) | (b == own)
 }
 
 // Where what stands at a place ends: at a byte of its own, a line's end or the text's.
 fn end_of(text: &[u8], at: usize, own: u8) -> usize
     requires { ⌜ at ≤ length (now text) ⌝ }
-    ensures { λ r. ⌜ (at ≤ r) × (r ≤ length (now (text .entry))) ⌝ }
+    ensures { λ r. ⌜ (r ≡ at + lead own (drop at (now (text .entry)))) × (r ≤ length (now (text .entry))) ⌝ }
 {
     let mut i = at;
     while i < text.len() {
@@ -27,7 +30,9 @@ fn end_of(text: &[u8], at: usize, own: u8) -> usize
 }
 
 // The field at a place; past the text's end there is none, and it is empty.
-pub fn field(text: &[u8], at: usize) -> &[u8] {
+pub fn field(text: &[u8], at: usize) -> &[u8]
+    ensures { λ r. ⌜ now r ≡ fieldAt (now (text .entry)) at ⌝ }
+{
     if text.len() < at {
         return &text[0..0];
     }
@@ -37,7 +42,7 @@ pub fn field(text: &[u8], at: usize) -> &[u8] {
 
 // The place after what stands at a place and ends at a byte of its own, at most the text's end.
 fn past(text: &[u8], at: usize, own: u8) -> usize
-    ensures { λ r. ⌜ (r ≤ length (now (text .entry))) × (at < length (now (text .entry)) → at < r) ⌝ }
+    ensures { λ r. ⌜ r ≡ past own (now (text .entry)) at ⌝ }
 {
     if text.len() <= at {
         return text.len();
@@ -48,21 +53,21 @@ fn past(text: &[u8], at: usize, own: u8) -> usize
 
 // The place after the field at a place.
 pub fn after(text: &[u8], at: usize) -> usize
-    ensures { λ r. ⌜ (r ≤ length (now (text .entry))) × (at < length (now (text .entry)) → at < r) ⌝ }
+    ensures { λ r. ⌜ r ≡ past 32 (now (text .entry)) at ⌝ }
 {
     past(text, at, SPACE)
 }
 
 // The place after the line at a place.
 pub fn after_line(text: &[u8], at: usize) -> usize
-    requires { ⌜ at < length (now text) ⌝ }
-    ensures { λ r. ⌜ (at < r) × (r ≤ length (now (text .entry))) ⌝ }
+    ensures { λ r. ⌜ r ≡ past 10 (now (text .entry)) at ⌝ }
 {
     past(text, at, NEWLINE)
 }
 
 // The place after the last whole line.
 pub fn whole(text: &[u8]) -> usize
+    ensures { λ r. ⌜ r ≡ wholeUpTo (now (text .entry)) (length (now (text .entry))) ⌝ }
     ensures { λ r. ⌜ r ≤ length (now (text .entry)) ⌝ }
 {
     let mut n = text.len();
