@@ -1,8 +1,11 @@
 // The lists that the check programs replay: a case a line, its fields parted by one space, bytes as hex digits.
 ghost use mathlib.Core.Path.{_≡_};
+ghost use mathlib.Core.Bool.{true};
 ghost use Prim.Native.Nat.{_+_, _≤_};
 ghost use lib.ListN.{length, drop};
+ghost use Rattle.wire.specs.Parts.{splice};
 ghost use Rattle.lines.specs.Fields.{ends, lead, fieldAt, past, wholeUpTo};
+ghost use Rattle.lines.specs.Digits.{digitOf, pairOf, pairsOf, allBytes, bytesIn, withBytes, numberOf};
 
 const SPACE: u8 = 32;
 
@@ -102,7 +105,7 @@ pub fn refill(fd: i32, buf: &mut [u8], used: usize, have: usize) -> usize
 
 // The value of a hex digit; 16 where a byte is none.
 fn digit(b: u8) -> u8
-    ensures { λ r. ⌜ r ≤ 16 ⌝ }
+    ensures { λ r. ⌜ (r ≡ digitOf b) × (r ≤ 16) ⌝ }
 {
     if b < 48 {
         return 16;
@@ -127,7 +130,7 @@ pub enum Got {
 
 // The byte of two hex digits; 256 where they are none.
 fn pair(high: u8, low: u8) -> u16
-    ensures { λ r. ⌜ r ≤ 256 ⌝ }
+    ensures { λ r. ⌜ r ≡ pairOf high low ⌝ }
 {
     let h = digit(high);
     let l = digit(low);
@@ -140,29 +143,52 @@ fn pair(high: u8, low: u8) -> u16
     (h * 16 + l) as u16
 }
 
-// A field of hex digits as bytes at the start of a buffer, and their count.
-pub fn bytes(field: &[u8], out: &mut [u8]) -> Got {
+// Whether a field is bytes: each two digits of it are hex, and none is left over.
+fn is_hex(field: &[u8]) -> bool
+    ensures { λ r. ⌜ r ≡ allBytes (pairsOf (now (field .entry))) ⌝ }
+{
+    let mut i = 0;
+    while 1 < field.len() - i {
+        if 255 < pair(field[i], field[i + 1]) {
+            return false;
+        }
+        i += 2;
+    }
+    i == field.len()
+}
+
+// The byte of each two digits of such a field, at the start of a buffer with room for all.
+fn fill(field: &[u8], out: &mut [u8])
+    requires { ⌜ (allBytes (pairsOf (now field)) ≡ true) × (length (pairsOf (now field)) ≤ length (now out)) ⌝ }
+    ensures { λ _. ⌜ now (out .exit) ≡ splice (now (out .entry)) 0 (pairsOf (now (field .entry))) ⌝ }
+{
     let n = field.len() / 2;
-    if field.len() % 2 == 1 {
+    let mut i = 0;
+    while i < n {
+        out[i] = pair(field[2 * i], field[2 * i + 1]) as u8;
+        i += 1;
+    }
+}
+
+// A field of hex digits as bytes at the start of a buffer, and their count; or it is refused, and the buffer stays.
+pub fn bytes(field: &[u8], out: &mut [u8]) -> Got
+    ensures { λ r. ⌜ (r ≡ bytesIn (now (field .entry)) (length (now (out .entry)))) × (now (out .exit) ≡ withBytes (now (field .entry)) (now (out .entry))) ⌝ }
+{
+    let n = field.len() / 2;
+    if !is_hex(field) {
         return Got::Bad;
     }
     if out.len() < n {
         return Got::Bad;
     }
-    let mut i = 0;
-    while i < n {
-        let b = pair(field[2 * i], field[2 * i + 1]);
-        if 255 < b {
-            return Got::Bad;
-        }
-        out[i] = b as u8;
-        i += 1;
-    }
+    fill(field, out);
     Got::Of(n as u64)
 }
 
 // A field of decimal digits as a number below 2 ^ 64.
-pub fn number(field: &[u8]) -> Got {
+pub fn number(field: &[u8]) -> Got
+    ensures { λ r. ⌜ r ≡ numberOf (now (field .entry)) ⌝ }
+{
     if field.len() == 0 {
         return Got::Bad;
     }
@@ -173,7 +199,7 @@ pub fn number(field: &[u8]) -> Got {
         if 9 < d {
             return Got::Bad;
         }
-        if 1844674407370955160 < x {
+        if 1844674407370955161 < x {
             return Got::Bad;
         }
         let ten = x * 10;
