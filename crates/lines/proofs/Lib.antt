@@ -3,3 +3,4 @@ pub mod Scans
 pub mod Filling
 pub mod Hex
 pub mod Decimal
+pub mod Moving

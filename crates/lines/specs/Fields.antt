@@ -1,7 +1,7 @@
 -- Where the fields and the lines of a text stand: fields end at a space (32), lines at a newline (10).
 use mathlib.Core.Bool.{Bool, cond, _||_}
 use mathlib.Core.List.{List, [], _∷_}
-use Prim.Native.Nat.{ℕ, zero, suc, _+_, min}
+use Prim.Native.Nat.{ℕ, zero, suc, _+_, _-_, min}
 use lib.Dec.{eqb}
 use lib.ListN.{length, getD, drop}
 use Rattle.wire.specs.Parts.{part}
@@ -27,3 +27,7 @@ past own text at = min (length text) (at + lead own (drop at text) + 1)
 unfoldable pub wholeUpTo : List ℕ → ℕ → ℕ
 wholeUpTo text zero = 0
 wholeUpTo text (suc n) = cond (eqb (getD text n 0) 10) (suc n) (wholeUpTo text n)
+
+-- how many bytes from `used` up to `have` a buffer of so many bytes has
+abbrev pub left : ℕ → ℕ → ℕ → ℕ
+left used have size = min have size - used

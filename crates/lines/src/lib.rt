@@ -1,10 +1,10 @@
 // The lists that the check programs replay: a case a line, its fields parted by one space, bytes as hex digits.
 ghost use mathlib.Core.Path.{_≡_};
 ghost use mathlib.Core.Bool.{true};
-ghost use Prim.Native.Nat.{_+_, _≤_};
+ghost use Prim.Native.Nat.{_+_, _-_, _≤_, min};
 ghost use lib.ListN.{length, drop};
-ghost use Rattle.wire.specs.Parts.{splice};
-ghost use Rattle.lines.specs.Fields.{ends, lead, fieldAt, past, wholeUpTo};
+ghost use Rattle.wire.specs.Parts.{part, splice};
+ghost use Rattle.lines.specs.Fields.{ends, lead, fieldAt, past, wholeUpTo, left};
 ghost use Rattle.lines.specs.Digits.{digitOf, pairOf, pairsOf, allBytes, bytesIn, withBytes, numberOf};
 
 const SPACE: u8 = 32;
@@ -83,9 +83,27 @@ pub fn whole(text: &[u8]) -> usize
     0
 }
 
-// The bytes from a place on, moved to the front.
+fn least(a: usize, b: usize) -> usize
+    ensures { λ r. ⌜ r ≡ min a b ⌝ }
+{
+    if a < b { a } else { b }
+}
+
+// How many bytes stand from one place up to another in a buffer of so many.
+fn between(from: usize, to: usize, size: usize) -> usize
+    ensures { λ r. ⌜ r ≡ left from to size ⌝ }
+{
+    let end = least(to, size);
+    if end < from {
+        return 0;
+    }
+    end - from
+}
+
+// The n bytes from a place on, moved to the front; the bytes after them stay.
 fn shift(buf: &mut [u8], from: usize, n: usize)
-    requires { ⌜ from + n ≤ length (now buf) ⌝ }
+    requires { ⌜ n ≤ length (now buf) - from ⌝ }
+    ensures { λ _. ⌜ now (buf .exit) ≡ splice (now (buf .entry)) 0 (part (now (buf .entry)) from n) ⌝ }
 {
     for i in 0..n {
         buf[i] = buf[from + i];
@@ -94,10 +112,10 @@ fn shift(buf: &mut [u8], from: usize, n: usize)
 
 // What was not used of a buffer's first bytes moved to its front, and more read after it; how many bytes there are now.
 pub fn refill(fd: i32, buf: &mut [u8], used: usize, have: usize) -> usize
-    requires { ⌜ (used ≤ have) × (have ≤ length (now buf)) ⌝ }
-    ensures { λ r. ⌜ r ≤ length (now (buf .exit)) ⌝ }
+    ensures { λ r. ⌜ part (now (buf .exit)) 0 (left used have (length (now (buf .entry)))) ≡ part (now (buf .entry)) used (left used have (length (now (buf .entry)))) ⌝ }
+    ensures { λ r. ⌜ (left used have (length (now (buf .entry))) ≤ r) × (r ≤ length (now (buf .exit))) ⌝ }
 {
-    let left = have - used;
+    let left = between(used, have, buf.len());
     shift(buf, used, left);
     let got = io::read_full(fd, &mut buf[left..]);
     left + got
