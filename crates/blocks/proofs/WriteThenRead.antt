@@ -7,7 +7,7 @@ use native.Mathlib.Omega.{arith}
 use lib.Dec.{ltb, eqb}
 use lib.ListN.{length, drop, getD, length-append}
 use lib.Seq.{getD-append-add}
-use borrow.Author.Tests.{ltb-false, eqb-true, eqb-false, le-leb, lt-leb, le-ltb, eq-eqb, ne-eqb}
+use borrow.Author.Tests.{ltb-false, eqb-true, eqb-false, le-leb, lt-leb, le-ltb, eq-eqb, ne-eqb, not-false}
 use Rattle.wire.specs.Parts.{part, splice}
 use Rattle.wire.specs.Numbers.{bigBytes, bigAt}
 use Rattle.wire.proofs.Tests.{or-neither}
@@ -68,10 +68,6 @@ module _ (w head rest : List ℕ) (is : w ≡ head ++ rest) (three : length head
 follow-on-back : (m : ℕ) (l : Bool) → m ≤ 127 → ((m * 2 + cond l 1 0) % 256 / 2 ≡ m) × (eqb ((m * 2 + cond l 1 0) % 256 % 2) 1 ≡ l)
 follow-on-back m true h = (omega arith, let e : (m * 2 + 1) % 256 % 2 ≡ 1 = omega arith in eq-eqb _ 1 e)
 follow-on-back m false h = (omega arith, let e : (m * 2 + 0) % 256 % 2 ≡ 1 → ⊥ = λ z. omega arith in ne-eqb _ 1 e)
-
-not-false : (x : Bool) → not x ≡ false → x ≡ true
-not-false true e = refl
-not-false false e = sym e
 
 -- ---- the body's value
 

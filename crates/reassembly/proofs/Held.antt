@@ -1,7 +1,7 @@
 -- Laws of how many numbers of a table are held: counting them tells whether all are. Assumes nothing.
 use mathlib.Core.Path.{_≡_, refl, sym, ap, _∙_}
 use mathlib.Core.Bool.{Bool, true, false, cond, not, _&&_, _||_, false≢true, true≢false}
-use mathlib.Core.List.{List, [], _∷_, _++_, append-assoc}
+use mathlib.Core.List.{List, [], _∷_, _++_, append-assoc, append-nil}
 use Prim.Native.Nat.{ℕ, zero, suc, _+_, _-_, _≤_, _<_}
 use native.Mathlib.Nat.{not-suc-le-zero, le-of-suc-le-suc}
 use native.Mathlib.Omega.{arith}
@@ -114,10 +114,6 @@ some-above t n top th tm = go (ltb n top) refl
 joined-append : (a b : List (List ℕ)) → joined (a ++ b) ≡ joined a ++ joined b
 joined-append [] b = refl
 joined-append (x ∷ a) b = ap (λ (z : List ℕ). x ++ z) (joined-append a b) ∙ sym (append-assoc x (joined a) (joined b))
-
-append-nil : (a : List ℕ) → a ++ [] ≡ a
-append-nil [] = refl
-append-nil (x ∷ a) = ap (λ (z : List ℕ). x ∷ z) (append-nil a)
 
 pub joined-series : (f : ℕ → List ℕ) (n k : ℕ) → k ≤ n → joined (take k (series f 0 n)) ≡ upTo f k
 joined-series f n zero h = refl

@@ -1,91 +1,52 @@
+<<<<<<< HEAD
 use mathlib.Core.Path.{_≡_}
 use Prim.Native.Nat.{_*_, _≤_, _-_}
+=======
+use mathlib.Core.Path.{_≡_, sym, _∙_}
+use mathlib.Core.Bool.{true, false}
+use native.Mathlib.Omega.{arith}
+>>>>>>> e05aaa3589326a8619bc1e6fddd709966803ae81
 use borrow.Author.Needs.{needs}
-use lib.ListN.{length, length-set}
+use borrow.Author.Tests.{not-true, not-false}
+use Rattle.lines.specs.Digits.{pairsOf, allBytes}
+use Rattle.lines.proofs.Hex.{good-length, no-digits, no-room, as-bytes}
 use Rattle.lines.proofs.bytes.Statement.{statement}
 use Rattle.lines.proofs.bytes.Tie as tie
 
-abbrev Inv-loop : tie.InvT-loop
-Inv-loop field out₀ n i₀ out i = (i ≤ n) × (n ≤ length out) × (n * 2 ≤ length field) × (length out ≡ length out₀)
+is-hex-requires : tie.Need-is-hex-requires
+is-hex-requires c κs = search needs
 
-abbrev μ-loop : tie.MeasureT-loop
-μ-loop field out₀ n i₀ out i = n - i
+returns : tie.Need-returns
+returns c =
+    let a = c .before .before .before .before .args in
+    let t : false ≡ allBytes (pairsOf (a .field .now)) = sym (not-true (c .before .is-hex .result) (c .if1 .taken)) ∙ c .before .is-hex .ensures in
+    no-digits (a .field .now) (a .out .now) t
 
-returns : tie.Need-returns Inv-loop μ-loop
-returns c = search needs
+returns-2 : tie.Need-returns-2
+returns-2 c =
+    let hex = c .before .before in
+    let a = hex .before .before .before .args in
+    let t : true ≡ allBytes (pairsOf (a .field .now)) = sym (not-false (hex .is-hex .result) (c .before .if1 .left)) ∙ hex .is-hex .ensures in
+    no-room (a .field .now) (a .out .now) t (omega arith)
 
-returns-2 : tie.Need-returns-2 Inv-loop μ-loop
-returns-2 c = search needs
+fill-requires : tie.Need-fill-requires
+fill-requires c κs =
+    let hex = c .before .before .before in
+    let a = hex .before .before .before .args in
+    let t : true ≡ allBytes (pairsOf (a .field .now)) = sym (not-false (hex .is-hex .result) (c .before .before .if1 .left)) ∙ hex .is-hex .ensures in
+    (sym t, omega (arith, good-length (a .field .now) (sym t)))
 
-loop-holds : tie.Need-loop-holds Inv-loop μ-loop
-loop-holds c = search needs
-
-mul-pair : tie.Need-mul-pair Inv-loop μ-loop
-mul-pair c = search needs
-
-shared-slice-read-pair : tie.Need-shared-slice-read-pair Inv-loop μ-loop
-shared-slice-read-pair c = search needs
-
-mul-pair-2 : tie.Need-mul-pair-2 Inv-loop μ-loop
-mul-pair-2 c = search needs
-
-add-pair : tie.Need-add-pair Inv-loop μ-loop
-add-pair c = search needs
-
-shared-slice-read-pair-2 : tie.Need-shared-slice-read-pair-2 Inv-loop μ-loop
-shared-slice-read-pair-2 c = search needs
-
-pair-requires : tie.Need-pair-requires Inv-loop μ-loop
-pair-requires c κs = search needs
-
-same-length : tie.Need-same-length Inv-loop μ-loop
+same-length : tie.Need-same-length
 same-length c = search needs
 
-returns-3 : tie.Need-returns-3 Inv-loop μ-loop
-returns-3 c = search needs
-
-cast-out : tie.Need-cast-out Inv-loop μ-loop
-cast-out c = search needs
-
-slice-write-out : tie.Need-slice-write-out Inv-loop μ-loop
-slice-write-out c = search needs
-
-add-i : tie.Need-add-i Inv-loop μ-loop
-add-i c = search needs
-
-loop-less : tie.Need-loop-less Inv-loop μ-loop
-loop-less c = search needs
-
-loop-again : tie.Need-loop-again Inv-loop μ-loop
-loop-again c = simp length-set (search needs)
-
-same-length-2 : tie.Need-same-length-2 Inv-loop μ-loop
-same-length-2 c = search needs
-
-returns-4 : tie.Need-returns-4 Inv-loop μ-loop
-returns-4 c = search needs
+returns-3 : tie.Need-returns-3
+returns-3 c =
+    let fill = c .before .before in
+    let hex = fill .before .before .before .before in
+    let a = hex .before .before .before .args in
+    let t : true ≡ allBytes (pairsOf (a .field .now)) = sym (not-false (hex .is-hex .result) (fill .before .before .before .if1 .left)) ∙ hex .is-hex .ensures in
+    as-bytes (a .field .now) (a .out .now) _ _ t (omega arith) (omega arith) (fill .fill .ensures)
 
 pub bytes-spec : {M : Type 1} → statement M
 bytes-spec =
-    tie.close
-    (tie.spec
-    Inv-loop
-    μ-loop
-    returns
-    returns-2
-    loop-holds
-    mul-pair
-    shared-slice-read-pair
-    mul-pair-2
-    add-pair
-    shared-slice-read-pair-2
-    pair-requires
-    same-length
-    returns-3
-    cast-out
-    slice-write-out
-    add-i
-    loop-less
-    loop-again
-    same-length-2
-    returns-4)
+    tie.close (tie.spec is-hex-requires returns returns-2 fill-requires same-length returns-3)
