@@ -11,9 +11,9 @@ use lib.ListN.{length, getD, set, length-set, replicate, length-replicate, lengt
 use lib.Seq.{getD-set-same, getD-set-other, ext-getD}
 use borrow.Author.Tests.{eq-eqb, ne-eqb}
 use Rattle.reassembly.specs.Store.{Message, Store, empty}
+use Rattle.reassembly.proofs.Stores.{none≢some}
 use Rattle.promises.specs.Demand3.{Cut, Within, noCut, Event, deliver, tidy, Tally, noTally, allMarks, begun, done, isOpen, marked, untouched, start, note, count, Allowed, Orderly, Schedule, dueOne, due, act, saidOf, said, final, timesOne, times, Demand3}
 use Rattle.promises.proofs.Demand3Marks.{any-replicate, set-mark}
-use Rattle.promises.proofs.Demand3Places.{none≢some}
 use Rattle.promises.proofs.Demand3Invariant.{cutAt, tallyAt, closed-of, Owned, Inv, delivered, tidied}
 
 -- At the start nothing is open.
