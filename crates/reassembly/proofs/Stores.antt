@@ -11,7 +11,7 @@ use lib.ListN.{length, getD, take, drop, set, replicate, length-map, length-repl
 use lib.Seq.{getD-drop, getD-take, ext-getD, length-take-le}
 use borrow.Author.Tests.{eq-eqb, ne-eqb, lt-ltb, le-ltb, le-leb, lt-leb, eqb-true, eqb-false, ltb-true}
 use Rattle.wire.proofs.Same.{eq-same}
-use Rattle.reassembly.specs.Store.{Piece, first, follow, idOf, numberOf, finalOf, bytesOf, Message, Store, allHeld, someHeld, total, joined, findId, findFree, placeOf, messageOr, plus, badLength, badNumber, repeats, clashes, tooMuch, complete, wholeOf, tooShort, refused, answer, step, sweptOne, sweep}
+use Rattle.reassembly.specs.Store.{Piece, first, follow, idOf, numberOf, finalOf, bytesOf, Message, Store, empty, allHeld, someHeld, total, joined, findId, findFree, placeOf, messageOr, plus, badLength, badNumber, repeats, clashes, tooMuch, complete, wholeOf, tooShort, refused, answer, step, sweptOne, sweep}
 use Rattle.reassembly.proofs.Table.{held-of-length, total-set, none-held}
 
 -- ---- the parts of a piece
@@ -27,6 +27,15 @@ unfolding idOf numberOf finalOf bytesOf
 follow-parts id number final bytes = (refl, refl, refl, refl)
 
 -- ---- where an id is found, and which place is free
+
+-- n times a default is the default everywhere
+all-same : {A : Type 0} (n i : ℕ) (d : A) → getD (replicate n d) i d ≡ d
+all-same zero i d = refl
+all-same (suc n) zero d = refl
+all-same (suc n) (suc i) d = all-same n i d
+
+pub empty-at : (k : ℕ) → getD empty k none ≡ none
+empty-at k = all-same 16 k none
 
 pub none≢some : (o : Option Message) (m : Message) → o ≡ none → o ≡ some m → ⊥
 none≢some o m p q = let z : _≡_ {A = ℕ} 0 1 = cc in omega arith
@@ -98,12 +107,7 @@ pub record Blank (id now : ℕ) (m : Message) : Type 0 where
 
 pub message-new : (id now : ℕ) → Blank id now (messageOr none id now)
 unfolding messageOr
-message-new id now = record { its-id = refl; opened = refl; last = refl; size = length-replicate {A = List ℕ} 128 []; none-there = blank-at 128 }
-  where
-    blank-at : (n i : ℕ) → _≡_ {A = List ℕ} (getD (replicate n []) i []) []
-    blank-at zero i = refl
-    blank-at (suc n) zero = refl
-    blank-at (suc n) (suc i) = blank-at n i
+message-new id now = record { its-id = refl; opened = refl; last = refl; size = length-replicate {A = List ℕ} 128 []; none-there = λ i. all-same 128 i [] }
 
 -- ---- a message with one piece more
 
