@@ -12,8 +12,10 @@ pub mod Tracks
 pub mod Counting
 pub mod Faithful
 pub mod Newest
+pub mod Histories
 pub mod Cases
 pub mod Recording
 pub mod InPlace
 pub mod Handed
+pub mod Sent
 pub mod Refused

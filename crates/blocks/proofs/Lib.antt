@@ -1,6 +1,7 @@
 -- The laws that the crates above cite.
 pub mod Ends
 pub mod Puts
+pub mod Faults
 pub mod Types
 pub mod Tables
 pub mod Soundness

@@ -77,8 +77,8 @@ unfolding refusal
 report-refused = demand1-calls .report silent lent lent (is-refusal 41 40 refl) .0
 
 pub told-56 : deliveryOutcome (nothing 56 0) .number ≡ 56
-unfolding deliveryOutcome nothing
-told-56 = refl
+unfolding nothing
+told-56 = Calls.delivery-number (nothing 56 0)
 
 pub told-stays : deliveryNumbers (nothing 56 0) lent ≡ lent
 told-stays = demand1-calls .told (nothing 56 0) lent (refuses (deliveryOutcome (nothing 56 0) .number) told-56) .1

@@ -1,5 +1,5 @@
 -- A refusal of each kind of call, computed, and what demand 1 says of it: no part is empty. Assumes nothing.
-use mathlib.Core.Path.{_≡_, refl}
+use mathlib.Core.Path.{_≡_, refl, sym, ap}
 use mathlib.Core.Bool.{false}
 use mathlib.Core.List.{List, [], _∷_}
 use Prim.Native.Nat.{ℕ, zero, suc, _<_}
@@ -29,7 +29,8 @@ use Rattle.acks.specs.Runs.{whole, total}
 use Rattle.acks.specs.Expanding.{expandAnswer, expandOf, listAfter}
 use Rattle.acks.proofs.Cases.{case-j}
 use Rattle.reassembly.specs.declared.Label.{Label}
-use Rattle.reassembly.specs.Calls.{after, bare, isShort, badSize, offNumber, firstCall, followOnCall, renewal, renewed}
+use Rattle.reassembly.specs.Calls.{After, after, bare, isShort, badSize, offNumber, firstCall, followOnCall, renewal, renewed}
+use Rattle.reassembly.proofs.Branches.{first-50, follow-51}
 use Rattle.messages.specs.Delivery.{left, nothing, delivered}
 use Rattle.promises.specs.Demand1.{StoreRefuses}
 use Rattle.promises.proofs.Demand1.{demand1}
@@ -143,8 +144,8 @@ module _ (rec room out : List ℕ) (long : isShort rec room ≡ false) (second :
   label = record { id = 1; number = 0; last = false; kind = 20; expires = 9 }
 
   pub no-bytes : firstCall rec room out label second [] .reply .number ≡ 50
-  unfolding firstCall badSize bare
-  no-bytes = rw long refl
+  unfolding badSize bare
+  no-bytes = sym (ap (λ (x : After). x .reply .number) (first-50 rec room out label second [] (bare 50) long refl refl))
 
   pub first-stays : firstCall rec room out label second [] ≡ after (firstCall rec room out label second [] .reply) rec room out
   first-stays =
@@ -152,8 +153,8 @@ module _ (rec room out : List ℕ) (long : isShort rec room ≡ false) (second :
       (store-refusal (firstCall rec room out label second [] .reply .number) 49 no-bytes (omega arith)) .1
 
   pub no-number : followOnCall rec room out label second (7 ∷ []) .reply .number ≡ 51
-  unfolding followOnCall badSize offNumber bare
-  no-number = rw long refl
+  unfolding badSize offNumber bare
+  no-number = sym (ap (λ (x : After). x .reply .number) (follow-51 rec room out label second (7 ∷ []) (bare 51) long refl refl refl))
 
   pub follow-on-stays : followOnCall rec room out label second (7 ∷ []) ≡ after (followOnCall rec room out label second (7 ∷ []) .reply) rec room out
   follow-on-stays =

@@ -1,47 +1,34 @@
 -- Demand 2 holds, and is not empty. Assumes nothing.
-use mathlib.Core.Path.{_≡_, refl, sym, ap, _∙_}
-use mathlib.Core.Bool.{false}
+use mathlib.Core.Path.{_≡_, refl, sym, _∙_}
 use mathlib.Core.List.{List, [], _∷_}
 use Prim.Native.Nat.{ℕ, _<_}
 use native.Mathlib.Omega.{arith}
 use lib.ListN.{length, replicate}
 use Rattle.acks.specs.Window.{window, falling, keep}
 use Rattle.acks.specs.History.{answerTo, highestOf, among, receive, noted, receivedAfter, received, highestSeen, newest}
-use Rattle.acks.proofs.Faithful.{Faithful, faithful, unheard, expands}
-use Rattle.acks.proofs.Newest.{highest-among}
+use Rattle.acks.proofs.Faithful.{Faithful}
+use Rattle.acks.proofs.Histories.{report-before, report-after, names-newest}
 use Rattle.promises.specs.Acks.{reportAfter}
 use Rattle.promises.specs.Demand2.{ExpandsTo, Acknowledges, Demand2}
 use Rattle.promises.proofs.Acks.{reported}
 
 module _ (calls : List ℕ) where
-  abbrev top : ℕ
-  top = highestSeen calls
-
-  before-any : received calls ≡ [] → among (received calls) top ≡ false
-  unfolding among
-  before-any e = ap (λ l. among l top) e
-
   pub report-faithful : 0 < length (received calls) → Faithful (highestSeen calls) (among (received calls)) (reportAfter calls)
-  unfolding highestSeen
-  report-faithful some = rw (reported calls) (faithful top (among (received calls)) (highest-among (received calls) some))
+  report-faithful some = rw (reported calls) (report-after calls some)
 
   acknowledges : 0 < length (received calls) → Acknowledges calls (reportAfter calls)
-  unfolding newest
   acknowledges some =
       let f = report-faithful some in
       record {
         given = f .number-is;
         highest = f .through-is;
         exact = λ list big.
-            let z = expands top (among (received calls)) (reportAfter calls) f list big in
+            let z = names-newest calls (reportAfter calls) f list big in
             record { answers = z .0; fills = z .1 };
       }
 
 pub demand2 : Demand2
-demand2 calls = (
-  λ none. reported calls ∙ unheard (highestSeen calls) (among (received calls)) (before-any calls none),
-  acknowledges calls,
-)
+demand2 calls = (λ none. reported calls ∙ report-before calls none, acknowledges calls)
 
 -- a history that meets the premises: 43, 40 and 42 in its middle, and the window moved past what came first
 abbrev pub mixed : List ℕ

@@ -11,9 +11,9 @@ use lib.ListN.{length, getD, set, length-set, replicate, length-replicate, lengt
 use lib.Seq.{getD-set-same, getD-set-other, ext-getD}
 use borrow.Author.Tests.{eq-eqb, ne-eqb}
 use Rattle.reassembly.specs.Store.{Message, Store, empty}
+use Rattle.reassembly.proofs.Stores.{none≢some, empty-at}
 use Rattle.promises.specs.Demand3.{Cut, Within, noCut, Event, deliver, tidy, Tally, noTally, allMarks, begun, done, isOpen, marked, untouched, start, note, count, Allowed, Orderly, Schedule, dueOne, due, act, saidOf, said, final, timesOne, times, Demand3}
 use Rattle.promises.proofs.Demand3Marks.{any-replicate, set-mark}
-use Rattle.promises.proofs.Demand3Places.{none≢some}
 use Rattle.promises.proofs.Demand3Invariant.{cutAt, tallyAt, closed-of, Owned, Inv, delivered, tidied}
 
 -- At the start nothing is open.
@@ -32,14 +32,6 @@ start-count : (cs : List Cut) → count isOpen (start cs) ≡ 0
 unfolding start
 start-count [] = refl
 start-count (c ∷ cs) = rw (untouched-shut c) (ap (λ (n : ℕ). 0 + n) (start-count cs))
-
-empty-at : (k : ℕ) → getD empty k none ≡ none
-empty-at k = go 16 k
-  where
-    go : (n k : ℕ) → _≡_ {A = Option Message} (getD (replicate n none) k none) none
-    go zero k = refl
-    go (suc n) zero = refl
-    go (suc n) (suc k) = go n k
 
 start-inv : (cs : List Cut) → Inv cs (start cs) empty
 start-inv cs =

@@ -2,13 +2,14 @@
 use mathlib.Core.Path.{_≡_, refl, sym, ap, _∙_, subst}
 use mathlib.Core.List.{List, [], _∷_, map}
 use Prim.Native.Nat.{ℕ, zero, suc, _<_}
-use native.Mathlib.Omega.{arith}
+use lib.Dec.{eqb}
 use lib.ListN.{length, getD}
 use Rattle.reassembly.specs.Store.{Piece, first, follow, Store, empty, step}
 use Rattle.reassembly.specs.Calls.{renewed}
-use Rattle.reassembly.specs.Stands.{stands, Made, Agrees, labelOf, replyFor, laidOut}
+use Rattle.reassembly.specs.Stands.{stands, Made, Agrees, laidOut}
 use Rattle.reassembly.proofs.Steps.{Fits, first-agrees, follow-agrees}
-use Rattle.reassembly.proofs.Sweeps.{sweep-stands, sweep-made, new-stands, new-made}
+use Rattle.reassembly.proofs.Sweeps.{new-stands, new-made}
+use Rattle.reassembly.proofs.Agreed.{fits-first, fits-follow, sweep-agrees}
 use Rattle.promises.specs.Demand3.{Cut, pieceOf, noCut, Event, deliver, tidy, start, due, times, act, saidOf, said, final, Outcome}
 use Rattle.promises.specs.Demand3Calls.{pieceCall, called, calls, lastly, replyDue, buffersDue, secondOf, Demand3Calls}
 use Rattle.promises.proofs.Demand3.{demand3}
@@ -19,16 +20,15 @@ piece-agrees rec room out m (first id typ expires bytes) second f = first-agrees
 piece-agrees rec room out m (follow id number final bytes) second f = follow-agrees rec room out m id number final second bytes f
 
 piece-fits : (c : Cut) (i second : ℕ) → c .id < 4294967296 → c .expires < 4294967296 → second < 18446744073709551616 → Fits (pieceOf c i) second
-piece-fits c zero second a b d = record { id = unfold labelOf in a; expires = unfold labelOf in b; second-fits = d }
-piece-fits c (suc i) second a b d = record { id = unfold labelOf in a; expires = unfold labelOf in omega arith; second-fits = d }
+piece-fits c zero second a b d = fits-first (c .id) (c .typ) (c .expires) (getD (c .pieces) 0 []) second a b d
+piece-fits c (suc i) second a b d = fits-follow (c .id) (suc i) (eqb (suc (suc i)) (length (c .pieces))) (getD (c .pieces) (suc i) []) second a d
 
 -- one event
 event-agrees : (cs : List Cut) (rec room out : List ℕ) → Made rec room → ((c : ℕ) → getD cs c noCut .id < 4294967296) → ((c : ℕ) → getD cs c noCut .expires < 4294967296)
     → (e : Event) → secondOf e < 18446744073709551616 → Agrees out (called cs rec room out e) (act (length out) cs (stands rec room) e)
 unfolding called act
 event-agrees cs rec room out m hi hx (deliver c i now) hs = piece-agrees rec room out m (pieceOf (getD cs c noCut) i) now (piece-fits (getD cs c noCut) i now (hi c) (hx c) hs)
-event-agrees cs rec room out m hi hx (tidy now) hs =
-    record { reply = unfold replyFor in refl; delivered = unfold laidOut in refl; store = sweep-stands now rec room m; made = sweep-made now rec room m }
+event-agrees cs rec room out m hi hx (tidy now) hs = sweep-agrees now rec room out m
 
 module _ (cap : ℕ) (outs : ℕ → List ℕ) (long : (n : ℕ) → length (outs n) ≡ cap) (cs : List Cut)
     (hi : (c : ℕ) → getD cs c noCut .id < 4294967296) (hx : (c : ℕ) → getD cs c noCut .expires < 4294967296) where

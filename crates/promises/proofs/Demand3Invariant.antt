@@ -10,13 +10,13 @@ use native.Mathlib.Omega.{arith}
 use native.Mathlib.Decide.{ℕ-discrete}
 use lib.ListN.{length, getD, set, length-set}
 use lib.Seq.{getD-set-same, getD-set-other, set-getD}
-use borrow.Author.Tests.{lt-ltb, le-ltb}
-use Rattle.reassembly.specs.Store.{Message, Store, findId, findFree, placeOf, messageOr, plus, refused, answer, step}
-use Rattle.promises.specs.Demand3.{Cut, Within, pieceOf, cutFrom, noCut, deliver, tidy, Tally, noTally, anyMark, allMarks, begun, done, isOpen, marked, note, count, Allowed, Orderly, dueOne, act, saidOf}
-use Rattle.promises.proofs.Demand3Marks.{none-at, not-all-at, any-set, any-at, set-mark, count-set}
-use Rattle.promises.proofs.Demand3Rebuilt.{Holds, holds-new, holds-plus, id-piece}
+use Rattle.reassembly.specs.Store.{Message, Store, findFree, placeOf, messageOr, plus, answer, step}
 use Rattle.reassembly.proofs.Series.{free-none}
-use Rattle.promises.proofs.Demand3Places.{isFull, none≢some, Hit, find-hit, find-miss, free-inside, sweep-same, answer-repeat, answer-kept, answer-finished}
+use Rattle.reassembly.proofs.Stores.{none≢some, Hit, place-open, place-new, free-inside, message-open, step-is, sweep-same}
+use Rattle.promises.specs.Demand3.{Cut, Within, pieceOf, cutFrom, noCut, deliver, tidy, Tally, noTally, anyMark, allMarks, begun, done, isOpen, marked, note, count, Allowed, Orderly, dueOne, act, saidOf}
+use Rattle.promises.proofs.Demand3Marks.{none-at, not-all-at, any-set, any-at, set-mark, count-set, count-less}
+use Rattle.promises.proofs.Demand3Rebuilt.{Holds, holds-new, holds-plus, id-piece}
+use Rattle.promises.proofs.Demand3Places.{isFull, not-full, answer-repeat, answer-kept, answer-finished}
 
 abbrev pub cutAt : List Cut → ℕ → Cut
 cutAt cs c = getD cs c noCut
@@ -89,10 +89,6 @@ closed-of t d = go (begun t)
 some-injective : (m n : Message) → some m ≡ some n → m ≡ n
 some-injective m n e = cc
 
-message-some : (m : Message) (id now : ℕ) → messageOr (some m) id now ≡ m
-unfolding messageOr
-message-some m id now = refl
-
 -- one piece of a message that was not begun does not complete it
 one-of-two : (bs : List Bool) (i : ℕ) → 2 ≤ length bs → anyMark bs ≡ false → allMarks (set bs i true) ≡ false
 one-of-two bs zero h e = not-all-at (set bs zero true) 1 (getD-set-other bs 0 1 true false (λ z. omega arith) ∙ none-at bs 1 e) (rw (length-set bs zero true) (omega arith))
@@ -105,13 +101,12 @@ module _ (cs : List Cut) (within : (c : ℕ) → c < length cs → Within (cutAt
   ts′ = set ts c (marked (tallyAt ts c) i now)
 
   open-found : begun (tallyAt ts c) ≡ true → Found cs ts s c now
-  unfolding placeOf messageOr
   open-found b =
       record {
         at = k;
         there = m;
-        is-at = rw (lt-ltb k (length s) (hit .inside)) refl;
-        is-there = rw (hit .is-there) refl;
+        is-at = refl;
+        is-there = ap (λ (r : Option Message). messageOr r (cutAt cs c .id) now) (hit .is-there) ∙ message-open m (cutAt cs c .id) now;
         inside = omega (arith, hit .inside, v .slots);
         holds = rw b (rw same at (o .1 .holds));
         alone = λ l n e q. v .apart l k n m e (hit .is-there) (q ∙ sym (hit .its-id));
@@ -124,11 +119,11 @@ module _ (cs : List Cut) (within : (c : ℕ) → c < length cs → Within (cutAt
       p : Placed cs s c
       p = v .placed c o-c
 
-      hit : Hit (cutAt cs c .id) s (findId (cutAt cs c .id) s)
-      hit = find-hit (cutAt cs c .id) s (p .at) (p .there) (p .is-there) (p .its-id)
+      hit : Hit (cutAt cs c .id) s (placeOf (cutAt cs c .id) s)
+      hit = place-open (cutAt cs c .id) s (p .at) (p .there) (p .is-there) (p .its-id)
 
       k : ℕ
-      k = findId (cutAt cs c .id) s
+      k = placeOf (cutAt cs c .id) s
 
       m : Message
       m = hit .there
@@ -168,12 +163,11 @@ module _ (cs : List Cut) (within : (c : ℕ) → c < length cs → Within (cutAt
       omega (arith, v .counted)
 
   new-found : begun (tallyAt ts c) ≡ false → Found cs ts s c now
-  unfolding placeOf
   new-found b =
       record {
         at = k;
         there = messageOr none (cutAt cs c .id) now;
-        is-at = rw (miss, le-ltb (length s) (length s) (omega arith)) refl;
+        is-at = place-new (cutAt cs c .id) s nobody;
         is-there = rw (free-none s) refl;
         inside = omega (arith, k-in, v .slots);
         holds = rw b (holds-new (cutAt cs c) (tallyAt ts c .marks) now none-marked);
@@ -199,9 +193,6 @@ module _ (cs : List Cut) (within : (c : ℕ) → c < length cs → Within (cutAt
           let d≢c : o .0 ≢ c = λ z. true≢false (sym (open-parts (tallyAt ts (o .0)) (o .1 .is-open)) ∙ (ap (λ (x : ℕ). begun (tallyAt ts x)) z ∙ b)) in
           d≢c (orderly′ .own-id (o .0) c (rw (other (o .0) d≢c) (o .1 .is-open)) open-c (sym (o .1 .holds .id) ∙ q))
 
-      miss : findId (cutAt cs c .id) s ≡ length s
-      miss = find-miss (cutAt cs c .id) s nobody
-
       one-more : count isOpen ts′ + 0 ≡ count isOpen ts + 1
       one-more = unfold ts′ in
           let a : count isOpen (set ts c (marked (tallyAt ts c) i now)) + cond (isOpen (tallyAt ts c)) 1 0 ≡ count isOpen ts + cond (isOpen (marked (tallyAt ts c) i now)) 1 0
@@ -209,7 +200,9 @@ module _ (cs : List Cut) (within : (c : ℕ) → c < length cs → Within (cutAt
           rw (open-begun (tallyAt ts c) nd ∙ b, open-of (marked (tallyAt ts c) i now) begun′ not-done) at a
 
       k-in : k < length s
-      k-in = free-inside s (omega (arith, one-more, v .counted, v .slots, orderly′ .at-most))
+      k-in =
+          let g = count-less isFull s none (omega (arith, one-more, v .counted, v .slots, orderly′ .at-most)) in
+          free-inside s (g .0) (g .1) (not-full (getD s (g .0) none) (g .2))
 
   found : Found cs ts s c now
   found = go (begun (tallyAt ts c)) refl
@@ -277,7 +270,7 @@ module _ (cs : List Cut) (within : (c : ℕ) → c < length cs → Within (cutAt
           mix p z od =
               let e : getD s k none ≡ some (p .there) = ap (λ (l : ℕ). getD s l none) (sym z) ∙ p .is-there in
               let b : begun (tallyAt ts c) ≡ true = sym (f .full) ∙ ap isFull e in
-              let n : p .there ≡ f .there = sym (message-some (p .there) (cutAt cs c .id) now) ∙ (sym (ap (λ (r : Option Message). messageOr r (cutAt cs c .id) now) e) ∙ f .is-there) in
+              let n : p .there ≡ f .there = sym (message-open (p .there) (cutAt cs c .id) now) ∙ (sym (ap (λ (r : Option Message). messageOr r (cutAt cs c .id) now) e) ∙ f .is-there) in
               v .orderly .own-id d c od (open-of (tallyAt ts c) b nd) (sym (p .its-id) ∙ (ap (λ (r : Message). r .id) n ∙ f .holds .id))
 
       its : (n : Message) → x ≡ some n → n .id ≡ cutAt cs c .id
@@ -294,8 +287,10 @@ module _ (cs : List Cut) (within : (c : ℕ) → c < length cs → Within (cutAt
   -- the piece is answered as is due, and the invariant holds again
   module _ (cap : ℕ) (room : 65535 ≤ cap) where
     step-answer : (f : Found cs ts s c now) → step cap s (pieceOf (cutAt cs c) i) now ≡ answer cap s (pieceOf (cutAt cs c) i) (f .at) (f .there)
-    unfolding step
-    step-answer f = rw (id-piece (cutAt cs c) i, f .is-at, f .is-there) refl
+    step-answer f =
+        step-is cap s (pieceOf (cutAt cs c) i) now (f .at) (f .there)
+        (ap (λ (z : ℕ). placeOf z s) (id-piece (cutAt cs c) i) ∙ f .is-at)
+        (ap (λ (z : ℕ). messageOr (getD s (f .at) none) z now) (id-piece (cutAt cs c) i) ∙ f .is-there)
 
     since′ : ℕ
     since′ = cond (begun (tallyAt ts c)) (tallyAt ts c .since) now
@@ -311,7 +306,7 @@ module _ (cs : List Cut) (within : (c : ℕ) → c < length cs → Within (cutAt
         sym (set-getD ts c noTally) ∙ ap (λ (x : Tally). set ts c x) e
 
     pub delivered : (saidOf (act cap cs s (deliver c i now)) ≡ dueOne cs ts (deliver c i now)) × Inv cs (note ts (deliver c i now)) (act cap cs s (deliver c i now) .store)
-    unfolding act dueOne note saidOf refused ts′ since′
+    unfolding act dueOne note saidOf ts′ since′
     delivered = go (getD (tallyAt ts c .marks) i false) refl (allMarks (set (tallyAt ts c .marks) i true)) refl
       where
         f : Found cs ts s c now
@@ -335,7 +330,7 @@ module _ (cs : List Cut) (within : (c : ℕ) → c < length cs → Within (cutAt
         go : (a : Bool) → getD (tallyAt ts c .marks) i false ≡ a → (b : Bool) → allMarks (set (tallyAt ts c .marks) i true) ≡ b
             → (saidOf (step cap s (pieceOf (cutAt cs c) i) now) ≡ dueOne cs ts (deliver c i now)) × Inv cs (note ts (deliver c i now)) (step cap s (pieceOf (cutAt cs c) i) now .store)
         go true a b e =
-            let q : step cap s (pieceOf (cutAt cs c) i) now ≡ refused 54 s
+            let q : step cap s (pieceOf (cutAt cs c) i) now ≡ record { number = 54; out = none; store = s }
             = step-answer f ∙ answer-repeat cap room s (f .at) (f .inside) (cutAt cs c) w (tallyAt ts c .marks) ml (cond (begun (tallyAt ts c)) (tallyAt ts c .since) now) (f .there) (f .holds) i ic a in
             rw (q, a) (refl, subst (λ (x : List Tally). Inv cs x s) (same-tallies a) v)
         go false a true e =

@@ -65,3 +65,13 @@ module _ {A : Type 0} (f : A → Bool) where
   count-set (y ∷ l) (suc i) x d h =
       let ih : count f (set l i x) + cond (f (getD l i d)) 1 0 ≡ count f l + cond (f x) 1 0 = count-set l i x d (le-of-suc-le-suc h) in
       omega arith
+
+  -- where fewer are counted than there are, one is not
+  pub count-less : (l : List A) (d : A) → count f l < length l → (k : ℕ) × (k < length l) × (f (getD l k d) ≡ false)
+  count-less [] d h = absurd (not-suc-le-zero h)
+  count-less (x ∷ l) d h = go (f x) refl h (count-less l d)
+    where
+      go : (b : Bool) → f x ≡ b → cond b 1 0 + count f l < suc (length l) → (count f l < length l → (k : ℕ) × (k < length l) × (f (getD l k d) ≡ false))
+          → (k : ℕ) × (k < suc (length l)) × (f (getD (x ∷ l) k d) ≡ false)
+      go true e h ih = let r = ih (omega arith) in (suc (r .0), omega (arith, r .1), r .2)
+      go false e h ih = (0, omega arith, e)

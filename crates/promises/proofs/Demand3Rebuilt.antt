@@ -1,21 +1,22 @@
 -- One message: what a slot holds when some of a cut message's pieces were delivered, and what it does with one more of them. Assumes nothing.
 use mathlib.Core.Path.{_≡_, refl, sym, ap, _∙_}
 use mathlib.Core.Logic.{_≢_}
-use mathlib.Core.Bool.{Bool, true, false, cond, _&&_, _||_, Bool·beq, false≢true}
+use mathlib.Core.Bool.{Bool, true, false, cond, false≢true}
 use mathlib.Core.List.{List, []}
 use mathlib.Core.Option.{none}
-use Prim.Native.Nat.{ℕ, zero, suc, _+_, _-_, _≤_, _<_}
+use Prim.Native.Nat.{ℕ, zero, suc, _-_, _≤_, _<_}
 use native.Mathlib.Omega.{arith}
-use lib.ListN.{length, getD, take, drop, set, replicate, length-set, length-replicate, List·getD-eq-default}
-use lib.Seq.{getD-set-same, getD-set-other, getD-drop, getD-take, ext-getD, length-take-le}
-use lib.Dec.{eqb, ltb}
+use lib.ListN.{length, getD, set, length-set, List·getD-eq-default}
+use lib.Seq.{getD-set-same, getD-set-other}
+use lib.Dec.{eqb}
 use native.Mathlib.Decide.{ℕ-discrete}
-use borrow.Author.Tests.{eq-eqb, ne-eqb, lt-ltb, le-ltb, eqb-true, eqb-false}
-use Rattle.reassembly.specs.Store.{Message, Whole, idOf, numberOf, finalOf, bytesOf, isHeld, allHeld, someHeld, total, joined, messageOr, plus, badLength, badNumber, repeats, clashes, tooMuch, complete, wholeOf, tooShort}
+use borrow.Author.Tests.{eq-eqb, ne-eqb, eqb-true, eqb-false}
+use Rattle.reassembly.specs.Store.{Message, Whole, idOf, numberOf, finalOf, bytesOf, isHeld, total, joined, messageOr, plus, badLength, badNumber, repeats, clashes, tooMuch, complete, wholeOf, tooShort}
+use Rattle.reassembly.proofs.Table.{held-of-length, total-le, length-joined}
+use Rattle.reassembly.proofs.Stores as Stores
+use Rattle.reassembly.proofs.Stores.{first-parts, follow-parts, Blank, message-new, plus-id, plus-opened, plus-last, plus-table, plus-first, plus-follow, length-good, first-good, follow-good, first-repeats, follow-repeats, complete-known, complete-unknown, whole-is, not-too-short}
 use Rattle.promises.specs.Demand3.{Cut, Within, pieceOf, cutFrom, anyMark, allMarks}
-use Rattle.reassembly.proofs.Table.{held-of-length, total-set, total-le, length-joined, none-held}
 use Rattle.promises.proofs.Demand3Marks.{all-at, not-all-at, none-at, all-held}
-use Rattle.wire.proofs.Same.{eq-same}
 
 -- The last number of a cut message
 abbrev pub top : Cut → ℕ
@@ -33,43 +34,34 @@ pub record Holds (c : Cut) (marks : List Bool) (since : ℕ) (m : Message) : Typ
 
 -- The parts of a piece
 pub id-piece : (c : Cut) (i : ℕ) → idOf (pieceOf c i) ≡ c .id
-unfolding idOf
-id-piece c zero = refl
-id-piece c (suc i) = refl
+id-piece c zero = first-parts _ _ _ _ .0
+id-piece c (suc i) = follow-parts _ _ _ _ .0
 
 pub number-piece : (c : Cut) (i : ℕ) → numberOf (pieceOf c i) ≡ i
-unfolding numberOf
-number-piece c zero = refl
-number-piece c (suc i) = refl
+number-piece c zero = first-parts _ _ _ _ .1
+number-piece c (suc i) = follow-parts _ _ _ _ .1
 
 pub bytes-piece : (c : Cut) (i : ℕ) → bytesOf (pieceOf c i) ≡ getD (c .pieces) i []
-unfolding bytesOf
-bytes-piece c zero = refl
-bytes-piece c (suc i) = refl
+bytes-piece c zero = first-parts _ _ _ _ .3
+bytes-piece c (suc i) = follow-parts _ _ _ _ .3
 
 pub final-piece : (c : Cut) (i : ℕ) → 2 ≤ length (c .pieces) → finalOf (pieceOf c i) ≡ eqb (suc i) (length (c .pieces))
-unfolding finalOf
-final-piece c zero h = sym (ne-eqb 1 (length (c .pieces)) (λ e. omega arith))
-final-piece c (suc i) h = refl
+final-piece c zero h = first-parts _ _ _ _ .2 ∙ sym (ne-eqb 1 (length (c .pieces)) (λ e. omega arith))
+final-piece c (suc i) h = follow-parts _ _ _ _ .2
 
 -- A message of which no piece was marked: the new one holds it
 pub holds-new : (c : Cut) (marks : List Bool) (now : ℕ) → anyMark marks ≡ false → Holds c marks now (messageOr none (c .id) now)
-unfolding messageOr
 holds-new c marks now e =
+    let b : Blank (c .id) now (messageOr none (c .id) now) = message-new (c .id) now in
     record {
-      id = refl;
-      opened = refl;
+      id = b .its-id;
+      opened = b .opened;
       typ = λ h. absurd (false≢true (sym (none-at marks 0 e) ∙ h));
       expires = λ h. absurd (false≢true (sym (none-at marks 0 e) ∙ h));
-      last = rw (none-at marks (top c) e) refl;
-      size = length-replicate {A = List ℕ} 128 [];
-      held = λ i. rw (none-at marks i e) (empty-table 128 i);
+      last = rw (none-at marks (top c) e) (b .last);
+      size = b .size;
+      held = λ i. rw (none-at marks i e) (b .none-there i);
     }
-  where
-    empty-table : (n i : ℕ) → _≡_ {A = List ℕ} (getD (replicate n []) i []) []
-    empty-table zero i = refl
-    empty-table (suc n) zero = refl
-    empty-table (suc n) (suc i) = empty-table n i
 
 module _ (c : Cut) (w : Within c) (marks : List Bool) (ml : length marks ≡ length (c .pieces)) (since : ℕ) (m : Message) (h : Holds c marks since m) where
   held-eq : (i : ℕ) → i < length marks → isHeld (getD (m .table) i []) ≡ getD marks i false
@@ -88,65 +80,45 @@ module _ (c : Cut) (w : Within c) (marks : List Bool) (ml : length marks ≡ len
 
   -- the completeness test is the question whether all are marked
   pub complete-holds : complete m ≡ allMarks marks
-  unfolding complete
   complete-holds = go (getD marks (top c) false) refl
     where
-      go : (b : Bool) → getD marks (top c) false ≡ b → (ltb 0 (m .last) && allHeld (take (suc (m .last)) (m .table))) ≡ allMarks marks
+      go : (b : Bool) → getD marks (top c) false ≡ b → complete m ≡ allMarks marks
       go true e =
           let l : m .last ≡ top c = h .last ∙ rw e refl in
           let two : 2 ≤ length (c .pieces) = w .two in
           let n : suc (m .last) ≡ length marks = omega arith in
-          let z : ltb 0 (m .last) ≡ true = lt-ltb 0 (m .last) (omega arith) in
-          rw (z, n) (all-held (m .table) marks (omega (arith, h .size, w .most)) held-eq)
+          complete-known m (omega arith) ∙ rw n (all-held (m .table) marks (omega (arith, h .size, w .most)) held-eq)
       go false e =
-          let l : m .last ≡ 0 = h .last ∙ rw e refl in
-          let z : ltb 0 (m .last) ≡ false = le-ltb 0 (m .last) (omega arith) in
           let two : 2 ≤ length (c .pieces) = w .two in
-          rw z (sym (not-all-at marks (top c) e (omega arith)))
+          complete-unknown m (h .last ∙ rw e refl) ∙ sym (not-all-at marks (top c) e (omega arith))
 
   -- and then what comes out is what was cut
   pub whole-holds : allMarks marks ≡ true → wholeOf m ≡ cutFrom c
-  unfolding wholeOf cutFrom
+  unfolding cutFrom
   whole-holds a =
-      λ i. record { typ = h .typ (all-at marks 0 a (omega (arith, w .two))) i; expires = h .expires (all-at marks 0 a (omega (arith, w .two))) i; bytes = joined (same i) }
+      whole-is m (c .pieces) (omega (arith, l, two)) (omega (arith, h .size, w .most)) (λ i k. h .held i ∙ rw (all-at marks i a (omega arith)) refl)
+      ∙ λ i. record { typ = h .typ (all-at marks 0 a (omega (arith, two))) i; expires = h .expires (all-at marks 0 a (omega (arith, two))) i; bytes = joined (c .pieces) }
     where
       two : 2 ≤ length (c .pieces)
       two = w .two
 
-      most : length (c .pieces) ≤ 128
-      most = w .most
-
       l : m .last ≡ top c
       l = h .last ∙ rw (all-at marks (top c) a (omega (arith, two))) refl
 
-      long : length (take (suc (m .last)) (m .table)) ≡ length (c .pieces)
-      long = length-take-le (suc (m .last)) (m .table) (omega (arith, l, h .size, two, most)) ∙ (omega (arith, l, two))
-
-      at : (i : ℕ) → i < length (take (suc (m .last)) (m .table)) → getD (take (suc (m .last)) (m .table)) i [] ≡ getD (c .pieces) i []
-      at i k = getD-take (suc (m .last)) (m .table) i [] (omega (arith, l, long, two)) ∙ (h .held i ∙ rw (all-at marks i a (omega (arith, long))) refl)
-
-      same : take (suc (m .last)) (m .table) ≡ c .pieces
-      same = ext-getD [] (take (suc (m .last)) (m .table)) (c .pieces) long at
-
   pub long-enough : (cap : ℕ) → 65535 ≤ cap → allMarks marks ≡ true → tooShort cap m ≡ false
-  unfolding tooShort cutFrom
+  unfolding cutFrom
   long-enough cap k a =
       let e : length (wholeOf m .bytes) ≡ total (c .pieces) = ap (λ (x : Whole). length (x .bytes)) (whole-holds a) ∙ length-joined (c .pieces) in
-      le-ltb cap (length (wholeOf m .bytes)) (omega (arith, w .in-all))
+      not-too-short cap m (omega (arith, w .in-all))
 
 -- A piece of c arrives.
-module _ (c : Cut) (w : Within c) (i : ℕ) (ic : i < length (c .pieces)) where
-  pub good-length : badLength (pieceOf c i) ≡ false
-  unfolding badLength
-  good-length =
-      rw (bytes-piece c i)
-      (rw (ne-eqb (length (getD (c .pieces) i [])) 0 (λ e. omega (arith, w .some-bytes i ic)), le-ltb 1500 (length (getD (c .pieces) i [])) (w .few-bytes i ic)) refl)
-
 module _ (c : Cut) (w : Within c) where
+  pub good-length : (i : ℕ) → i < length (c .pieces) → badLength (pieceOf c i) ≡ false
+  good-length i ic = length-good (pieceOf c i) (rw (bytes-piece c i) (w .some-bytes i ic)) (rw (bytes-piece c i) (w .few-bytes i ic))
+
   pub good-number : (i : ℕ) → i < length (c .pieces) → badNumber (pieceOf c i) ≡ false
-  unfolding badNumber
-  good-number zero ic = refl
-  good-number (suc i) ic = rw (ne-eqb (suc i) 0 (λ e. omega arith), le-ltb 127 (suc i) (omega (arith, w .most))) refl
+  good-number zero ic = first-good _ _ _ _
+  good-number (suc i) ic = follow-good _ (suc i) _ _ (omega arith) (omega (arith, w .most))
 
 module _ (c : Cut) (w : Within c) (marks : List Bool) (ml : length marks ≡ length (c .pieces)) (since : ℕ) (m : Message) (h : Holds c marks since m) where
   -- the flag that the slot shows of a number
@@ -163,45 +135,14 @@ module _ (c : Cut) (w : Within c) (marks : List Bool) (ml : length marks ≡ len
           apart true e′ = let l : m .last ≡ top c = h .last ∙ rw e′ refl in ne-eqb (m .last) (suc i) (λ z. q (omega arith))
           apart false e′ = let l : m .last ≡ 0 = h .last ∙ rw e′ refl in ne-eqb (m .last) (suc i) (λ z. omega arith)
 
-  same-flag : (b : Bool) → Bool·beq b b ≡ true
-  same-flag true = refl
-  same-flag false = refl
-
   pub repeats-marked : (i : ℕ) → i < length (c .pieces) → getD marks i false ≡ true → repeats m (pieceOf c i) ≡ true
-  unfolding repeats
-  repeats-marked zero ic e =
-      let t : getD (m .table) 0 [] ≡ getD (c .pieces) 0 [] = h .held 0 ∙ rw e refl in
-      rw (t, held-of-length (getD (c .pieces) 0 []) (w .some-bytes 0 ic), eq-same (getD (c .pieces) 0 []), eq-eqb (m .typ) (c .typ) (h .typ e), eq-eqb (m .expires) (c .expires) (h .expires e)) refl
-  repeats-marked (suc i) ic e =
-      let t : getD (m .table) (suc i) [] ≡ getD (c .pieces) (suc i) [] = h .held (suc i) ∙ rw e refl in
-      rw (t, held-of-length (getD (c .pieces) (suc i) []) (w .some-bytes (suc i) ic), eq-same (getD (c .pieces) (suc i) []), flag-shown i ic e, same-flag (eqb (suc (suc i)) (length (c .pieces)))) refl
-
-  module _ (i : ℕ) (ic : i < length (c .pieces)) (e : getD marks i false ≡ false) where
-    free-place : getD (m .table) i [] ≡ []
-    free-place = h .held i ∙ rw e refl
-
-    last-cases : (b : Bool) → getD marks (top c) false ≡ b → (ltb 0 (m .last) && ltb (m .last) i) ≡ false
-    last-cases true q = let l : m .last ≡ top c = h .last ∙ rw q refl in rw (lt-ltb 0 (m .last) (omega (arith, w .two)), le-ltb (m .last) i (omega arith)) refl
-    last-cases false q = let l : m .last ≡ 0 = h .last ∙ rw q refl in rw (le-ltb 0 (m .last) (omega arith)) refl
-
-    final-cases : (b : Bool) → eqb (suc i) (length (c .pieces)) ≡ b → (eqb (suc i) (length (c .pieces)) && (someHeld (drop (suc i) (m .table)) || ltb 0 (m .last))) ≡ false
-    final-cases true q =
-        let n : suc i ≡ length (c .pieces) = eqb-true (suc i) (length (c .pieces)) q in
-        let t : top c ≡ i = omega arith in
-        let l : m .last ≡ 0 = h .last ∙ rw (ap (λ (k : ℕ). getD marks k false) t ∙ e) refl in
-        rw (q, none-held (drop (suc i) (m .table)) (λ j. getD-drop (suc i) (m .table) j [] ∙ (h .held (suc i + j) ∙ rw (List·getD-eq-default marks false {n = suc i + j} (omega arith)) refl)), le-ltb 0 (m .last) (omega arith)) refl
-    final-cases false q = rw q refl
-
-    pub no-clash : clashes m (pieceOf c i) ≡ false
-    unfolding clashes
-    no-clash = rw (number-piece c i, final-piece c i (w .two), free-place, last-cases (getD marks (top c) false) refl, final-cases (eqb (suc i) (length (c .pieces))) refl) refl
-
-  pub no-repeat : (i : ℕ) → i < length (c .pieces) → getD marks i false ≡ false → repeats m (pieceOf c i) ≡ false
-  unfolding repeats
-  no-repeat zero ic e = rw (free-place zero ic e) refl
-  no-repeat (suc i) ic e = rw (free-place (suc i) ic e) refl
+  repeats-marked zero ic e = first-repeats m _ _ _ _ (w .some-bytes 0 ic) (h .held 0 ∙ rw e refl) (h .typ e) (h .expires e)
+  repeats-marked (suc i) ic e = follow-repeats m _ (suc i) _ _ (w .some-bytes (suc i) ic) (h .held (suc i) ∙ rw e refl) (flag-shown i ic e)
 
   -- The table with piece i in it
+  table-is : (i : ℕ) → plus m (pieceOf c i) .table ≡ set (m .table) i (getD (c .pieces) i [])
+  table-is i = plus-table m (pieceOf c i) ∙ rw (number-piece c i, bytes-piece c i) refl
+
   table-plus : (i : ℕ) → i < length (c .pieces) → (j : ℕ) → getD (set (m .table) i (getD (c .pieces) i [])) j [] ≡ cond (getD (set marks i true) j false) (getD (c .pieces) j []) []
   table-plus i ic j = go (ℕ-discrete j i)
     where
@@ -211,52 +152,59 @@ module _ (c : Cut) (w : Within c) (marks : List Bool) (ml : length marks ≡ len
       go (no q) =
           rw (getD-set-other (m .table) i j (getD (c .pieces) i []) [] q, getD-set-other marks i j true false q) (h .held j)
 
-  last-plus : (i : ℕ) → suc i < length (c .pieces) → cond (eqb (suc (suc i)) (length (c .pieces))) (suc i) (m .last) ≡ cond (getD (set marks (suc i) true) (top c) false) (top c) 0
-  last-plus i ic = go (eqb (suc (suc i)) (length (c .pieces))) refl
+  last-plus : (i : ℕ) → i < length (c .pieces) → cond (eqb (suc i) (length (c .pieces))) i (m .last) ≡ cond (getD (set marks i true) (top c) false) (top c) 0
+  last-plus i ic = go (eqb (suc i) (length (c .pieces))) refl
     where
-      go : (b : Bool) → eqb (suc (suc i)) (length (c .pieces)) ≡ b → cond (eqb (suc (suc i)) (length (c .pieces))) (suc i) (m .last) ≡ cond (getD (set marks (suc i) true) (top c) false) (top c) 0
+      go : (b : Bool) → eqb (suc i) (length (c .pieces)) ≡ b → cond (eqb (suc i) (length (c .pieces))) i (m .last) ≡ cond (getD (set marks i true) (top c) false) (top c) 0
       go true q =
-          let n : suc (suc i) ≡ length (c .pieces) = eqb-true (suc (suc i)) (length (c .pieces)) q in
-          let t : top c ≡ suc i = omega arith in
-          rw (q, t, getD-set-same marks (suc i) true false (omega arith)) refl
+          let n : suc i ≡ length (c .pieces) = eqb-true (suc i) (length (c .pieces)) q in
+          let t : top c ≡ i = omega arith in
+          rw (q, t, getD-set-same marks i true false (omega arith)) refl
       go false q =
-          let t : top c ≢ suc i = λ e. eqb-false (suc (suc i)) (length (c .pieces)) q (omega arith) in
-          rw (q, getD-set-other marks (suc i) (top c) true false t) (h .last)
+          let t : top c ≢ i = λ e. eqb-false (suc i) (length (c .pieces)) q (omega arith) in
+          rw (q, getD-set-other marks i (top c) true false t) (h .last)
+
+  head-plus : (i : ℕ) → getD (set marks i true) 0 false ≡ true → (plus m (pieceOf c i) .typ ≡ c .typ) × (plus m (pieceOf c i) .expires ≡ c .expires)
+  head-plus zero e = plus-first m _ _ _ _
+  head-plus (suc i) e =
+      let z : getD marks 0 false ≡ true = sym (getD-set-other marks (suc i) 0 true false (λ z. omega arith)) ∙ e in
+      (plus-follow m _ _ _ _ .0 ∙ h .typ z, plus-follow m _ _ _ _ .1 ∙ h .expires z)
 
   pub holds-plus : (i : ℕ) → i < length (c .pieces) → Holds c (set marks i true) since (plus m (pieceOf c i))
-  unfolding plus
-  holds-plus zero ic =
+  holds-plus i ic =
       record {
-        id = h .id;
-        opened = h .opened;
-        typ = λ e. refl;
-        expires = λ e. refl;
-        last = rw (getD-set-other marks 0 (top c) true false (λ e. omega (arith, w .two))) (h .last);
-        size = length-set (m .table) 0 (getD (c .pieces) 0 []) ∙ h .size;
-        held = table-plus zero ic;
-      }
-  holds-plus (suc i) ic =
-      record {
-        id = h .id;
-        opened = h .opened;
-        typ = λ e. h .typ (sym (getD-set-other marks (suc i) 0 true false (λ z. omega arith)) ∙ e);
-        expires = λ e. h .expires (sym (getD-set-other marks (suc i) 0 true false (λ z. omega arith)) ∙ e);
-        last = last-plus i ic;
-        size = length-set (m .table) (suc i) (getD (c .pieces) (suc i) []) ∙ h .size;
-        held = table-plus (suc i) ic;
+        id = plus-id m (pieceOf c i) ∙ h .id;
+        opened = plus-opened m (pieceOf c i) ∙ h .opened;
+        typ = λ e. head-plus i e .0;
+        expires = λ e. head-plus i e .1;
+        last = plus-last m (pieceOf c i) ∙ rw (number-piece c i, final-piece c i (w .two)) (last-plus i ic);
+        size = ap length (table-is i) ∙ length-set (m .table) i (getD (c .pieces) i []) ∙ h .size;
+        held = λ j. ap (λ (t : List (List ℕ)). getD t j []) (table-is i) ∙ table-plus i ic j;
       }
 
-  table-is : (i : ℕ) → plus m (pieceOf c i) .table ≡ set (m .table) i (getD (c .pieces) i [])
-  unfolding plus
-  table-is zero = refl
-  table-is (suc i) = refl
+  module _ (i : ℕ) (ic : i < length (c .pieces)) (e : getD marks i false ≡ false) where
+    free-place : getD (m .table) (numberOf (pieceOf c i)) [] ≡ []
+    free-place = rw (number-piece c i) (h .held i ∙ rw e refl)
 
-  pub not-too-much : (i : ℕ) → i < length (c .pieces) → getD marks i false ≡ false → tooMuch m (pieceOf c i) ≡ false
-  unfolding tooMuch
-  not-too-much i ic e =
-      let ml′ : length (set marks i true) ≡ length (c .pieces) = length-set marks i true ∙ ml in
-      let a : total (plus m (pieceOf c i) .table) ≤ total (c .pieces) = total-holds c w (set marks i true) ml′ since (plus m (pieceOf c i)) (holds-plus i ic) in
-      let b : total (plus m (pieceOf c i) .table) ≡ total (set (m .table) i (getD (c .pieces) i [])) = ap total (table-is i) in
-      let k : total (set (m .table) i (getD (c .pieces) i [])) + length (getD (m .table) i []) ≡ total (m .table) + length (getD (c .pieces) i []) = total-set (m .table) i (getD (c .pieces) i []) (omega (arith, h .size, w .most)) in
-      let z : length (getD (m .table) i []) ≡ 0 = ap length (free-place i ic e) in
-      rw (bytes-piece c i) (le-ltb 65535 (total (m .table) + length (getD (c .pieces) i [])) (omega (arith, w .in-all)))
+    pub no-repeat : repeats m (pieceOf c i) ≡ false
+    no-repeat = Stores.no-repeat m (pieceOf c i) free-place
+
+    pub no-clash : clashes m (pieceOf c i) ≡ false
+    no-clash = Stores.no-clash m (pieceOf c i) free-place (λ z. rw (number-piece c i) (below (getD marks (top c) false) refl z)) lasts
+      where
+        below : (b : Bool) → getD marks (top c) false ≡ b → 0 < m .last → i ≤ m .last
+        below true q z = let l : m .last ≡ top c = h .last ∙ rw q refl in omega arith
+        below false q z = let l : m .last ≡ 0 = h .last ∙ rw q refl in omega arith
+
+        lasts : finalOf (pieceOf c i) ≡ true → (m .last ≡ 0) × ((k : ℕ) → numberOf (pieceOf c i) < k → getD (m .table) k [] ≡ [])
+        lasts q =
+            let n : suc i ≡ length (c .pieces) = eqb-true (suc i) (length (c .pieces)) (sym (final-piece c i (w .two)) ∙ q) in
+            let t : top c ≡ i = omega arith in (
+              h .last ∙ rw (ap (λ (k : ℕ). getD marks k false) t ∙ e) refl,
+              λ k z. let a : i < k = rw (number-piece c i) at z in h .held k ∙ rw (List·getD-eq-default marks false {n = k} (omega arith)) refl,
+            )
+
+    pub not-too-much : tooMuch m (pieceOf c i) ≡ false
+    not-too-much =
+        let a : total (plus m (pieceOf c i) .table) ≤ total (c .pieces) = total-holds c w (set marks i true) (length-set marks i true ∙ ml) since (plus m (pieceOf c i)) (holds-plus i ic) in
+        Stores.not-too-much m (pieceOf c i) (rw (number-piece c i) (omega (arith, h .size, w .most))) free-place (omega (arith, w .in-all))

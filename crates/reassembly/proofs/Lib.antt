@@ -1,5 +1,6 @@
 -- The laws that the crates above cite.
 pub mod Table
+pub mod Stores
 pub mod Cases
 pub mod Fields
 pub mod Zeros
@@ -17,5 +18,6 @@ pub mod Refines
 pub mod Fresh
 pub mod Steps
 pub mod Sweeps
+pub mod Agreed
 pub mod Refusals
 pub mod Refused
