@@ -5,12 +5,11 @@ use mathlib.Core.List.{List, [], _∷_}
 use Prim.Native.Nat.{ℕ, zero, suc, _+_, _-_, _*_, _/_, _≤_, _<_}
 use native.Mathlib.Omega.{arith}
 use native.Mathlib.Numerals.{add-one}
-use lib.Dec.{ltb, leb, eqb}
+use lib.Dec.{ltb, eqb}
 use lib.ListN.{length, getD, drop, drop-of-length-le}
 use lib.Seq.{drop-cons}
 use borrow.Author.Tests.{lt-ltb, le-ltb, le-leb, lt-leb, ltb-true, eqb-true, eqb-false}
 use Rattle.wire.specs.Parts.{splice}
-use Rattle.lines.specs.declared.Got.{Got}
 use Rattle.lines.specs.declared.Got.the-variants as As
 use Rattle.lines.specs.Digits.{digitOf, pairOf, pairsOf, allBytes, isBytes, bytesIn, withBytes}
 

@@ -31,3 +31,7 @@ wholeUpTo text (suc n) = cond (eqb (getD text n 0) 10) (suc n) (wholeUpTo text n
 -- how many bytes from `used` up to `have` a buffer of so many bytes has
 abbrev pub left : ℕ → ℕ → ℕ → ℕ
 left used have size = min have size - used
+
+-- those bytes
+abbrev pub kept : List ℕ → ℕ → ℕ → List ℕ
+kept buf used have = part buf used (left used have (length buf))
