@@ -1,7 +1,4 @@
 // Acknowledgements: which packet numbers came, and what to tell the sender. The Rust's `ack.rs`, as types and definitions; crates `tracker`, `reports` and `expand` have the calls.
-ghost use mathlib.Core.Path.{_≡_};
-ghost use Prim.Native.Nat.{min};
-
 // The highest number seen, and the marks of the 255 numbers that end there. The Rust's `RemoteAckManager`.
 pub struct Tracker {
     pub highest: u32,
@@ -29,10 +26,4 @@ pub struct AckInfo {
 pub struct Expanded {
     pub number: u32,
     pub count: usize,
-}
-
-pub fn shorter(a: usize, b: usize) -> usize
-    ensures { λ r. ⌜ r ≡ min a b ⌝ }
-{
-    if a < b { a } else { b }
 }

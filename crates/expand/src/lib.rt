@@ -9,8 +9,8 @@ ghost use Rattle.acks.specs.Window.{falling};
 ghost use Rattle.acks.specs.Runs.{named, flags, whole, total};
 ghost use Rattle.acks.specs.Expanding.{numbers, expandOf, listAfter};
 use acks::Expanded;
-use acks::shorter;
 use blocks::Part;
+use wire::shorter;
 
 struct Measured {
     within: bool,

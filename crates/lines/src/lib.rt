@@ -1,7 +1,7 @@
 // The lists that the check programs replay: a case a line, its fields parted by one space, bytes as hex digits.
 ghost use mathlib.Core.Path.{_≡_};
 ghost use mathlib.Core.Bool.{true};
-ghost use Prim.Native.Nat.{_+_, _-_, _≤_, min};
+ghost use Prim.Native.Nat.{_+_, _-_, _≤_};
 ghost use lib.ListN.{length, drop};
 ghost use Rattle.wire.specs.Parts.{part, splice};
 ghost use Rattle.lines.specs.Fields.{ends, lead, fieldAt, past, wholeUpTo, left, kept};
@@ -83,17 +83,11 @@ pub fn whole(text: &[u8]) -> usize
     0
 }
 
-fn least(a: usize, b: usize) -> usize
-    ensures { λ r. ⌜ r ≡ min a b ⌝ }
-{
-    if a < b { a } else { b }
-}
-
 // How many bytes stand from one place up to another in a buffer of so many.
 fn between(from: usize, to: usize, size: usize) -> usize
     ensures { λ r. ⌜ r ≡ left from to size ⌝ }
 {
-    let end = least(to, size);
+    let end = wire::shorter(to, size);
     if end < from {
         return 0;
     }

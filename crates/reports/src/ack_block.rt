@@ -3,10 +3,10 @@ ghost use mathlib.Core.Path.{_≡_};
 ghost use lib.ListN.{length};
 ghost use Rattle.acks.specs.AckBlocks.{ackBlock, ackWriting, ackRoom};
 use acks::AckInfo;
-use acks::shorter;
 use blocks::Block;
 use blocks::Part;
 use blocks::Written;
+use wire::shorter;
 
 fn block_of(r: AckInfo) -> Block
     ensures { λ b. ⌜ b ≡ ackBlock r ⌝ }

@@ -1,6 +1,6 @@
-// Bytes copied and compared, small numbers as lengths; what parts of a list and numbers in bytes are, and the laws that all crates share.
+// Bytes copied and compared, lengths; what parts of a list and numbers in bytes are, and the laws that all crates share.
 ghost use mathlib.Core.Path.{_≡_};
-ghost use Prim.Native.Nat.{_+_, _<_, _≤_};
+ghost use Prim.Native.Nat.{_+_, _<_, _≤_, min};
 ghost use lib.ListN.{length};
 ghost use Rattle.wire.specs.Parts.{splice, same};
 
@@ -44,4 +44,10 @@ pub fn usize_from_u16(word: u16) -> usize
     ensures { λ r. ⌜ (r ≡ word) × (r < 65536) ⌝ }
 {
     word as usize
+}
+
+pub fn shorter(a: usize, b: usize) -> usize
+    ensures { λ r. ⌜ r ≡ min a b ⌝ }
+{
+    if a < b { a } else { b }
 }

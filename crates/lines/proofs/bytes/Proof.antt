@@ -1,11 +1,6 @@
-<<<<<<< HEAD
-use mathlib.Core.Path.{_≡_}
-use Prim.Native.Nat.{_*_, _≤_, _-_}
-=======
 use mathlib.Core.Path.{_≡_, sym, _∙_}
 use mathlib.Core.Bool.{true, false}
 use native.Mathlib.Omega.{arith}
->>>>>>> e05aaa3589326a8619bc1e6fddd709966803ae81
 use borrow.Author.Needs.{needs}
 use borrow.Author.Tests.{not-true, not-false}
 use Rattle.lines.specs.Digits.{pairsOf, allBytes}

@@ -1,13 +1,8 @@
-<<<<<<< HEAD
-use Prim.Native.Nat.{_≤_, _-_}
-use lib.ListN.{length}
-=======
 use mathlib.Core.Path.{_≡_, refl, sym, _∙_}
 use mathlib.Core.Bool.{true, false}
 use Prim.Native.Nat.{_+_, _≤_, _-_}
 use native.Mathlib.Omega.{arith}
 use lib.ListN.{length, getD, drop}
->>>>>>> e05aaa3589326a8619bc1e6fddd709966803ae81
 use borrow.Author.Needs.{needs}
 use Rattle.lines.specs.Fields.{ends, lead}
 use Rattle.lines.proofs.Scans.{lead-ends, lead-goes, lead-none}

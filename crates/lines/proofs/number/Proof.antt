@@ -1,12 +1,7 @@
-<<<<<<< HEAD
-use Prim.Native.Nat.{_≤_, _-_}
-use lib.ListN.{length}
-=======
 use mathlib.Core.Path.{_≡_, sym, ap, _∙_}
 use Prim.Native.Nat.{ℕ, _+_, _*_, _^_, _≤_, _<_, _-_}
 use native.Mathlib.Omega.{arith}
 use lib.ListN.{length, getD, drop}
->>>>>>> e05aaa3589326a8619bc1e6fddd709966803ae81
 use borrow.Author.Needs.{needs}
 use Rattle.lines.specs.Digits.{digitOf, numberFrom, numberOf}
 use Rattle.lines.proofs.Decimal.{number-refused, number-large, number-goes, number-end, number-none, number-some}
