@@ -1,6 +1,6 @@
 -- Laws of digits, and of fields of hex digits: a turn of each loop, and its end. Assumes nothing.
 use mathlib.Core.Path.{_≡_, refl, sym, ap, _∙_}
-use mathlib.Core.Bool.{Bool, true, false, _&&_, false≢true}
+use mathlib.Core.Bool.{Bool, true, false, false≢true}
 use mathlib.Core.List.{List, [], _∷_}
 use Prim.Native.Nat.{ℕ, zero, suc, _+_, _-_, _*_, _/_, _≤_, _<_}
 use native.Mathlib.Omega.{arith}
@@ -9,6 +9,7 @@ use lib.Dec.{ltb, eqb}
 use lib.ListN.{length, getD, drop, drop-of-length-le}
 use lib.Seq.{drop-cons}
 use borrow.Author.Tests.{lt-ltb, le-ltb, le-leb, lt-leb, ltb-true, eqb-true, eqb-false}
+use Rattle.wire.proofs.Tests.{and-both}
 use Rattle.wire.specs.Parts.{splice}
 use Rattle.lines.specs.declared.Got.the-variants as As
 use Rattle.lines.specs.Digits.{digitOf, pairOf, pairsOf, allBytes, isBytes, bytesIn, withBytes}
@@ -52,10 +53,6 @@ module _ (high low : ℕ) where
   pair-both h l p q g i = rw (← p, ← q, lt-ltb h 16 g, lt-ltb l 16 i)
 
 -- ---- whether all are bytes
-
-and-both : (x y : Bool) → (x && y) ≡ true → (x ≡ true) × (y ≡ true)
-and-both true y h = (refl, h)
-and-both false y h = (h, absurd (false≢true h))
 
 module _ (l : List ℕ) (i : ℕ) where
   two : i + 1 < length l → drop i l ≡ getD l i 0 ∷ getD l (i + 1) 0 ∷ drop (i + 2) l
