@@ -2,7 +2,6 @@
 pub mod Table
 pub mod Cases
 pub mod Fields
-pub mod Zeros
 pub mod Scan
 pub mod Joined
 pub mod Ages
@@ -19,3 +18,4 @@ pub mod Steps
 pub mod Sweeps
 pub mod Refusals
 pub mod Refused
+pub mod Brought
