@@ -2,7 +2,7 @@
 use mathlib.Core.Path.{_≡_, refl, ap, _∙_, subst}
 use mathlib.Core.Bool.{Bool, true, false, cond}
 use mathlib.Core.List.{List}
-use mathlib.Core.Option.{Option, none, some}
+use mathlib.Core.Option.{Option, none, some, Option·none-ne-some, Option·some-ne-none}
 use Prim.Native.Nat.{ℕ, _≤_}
 use native.Mathlib.Omega.{arith}
 use lib.Dec.{ltb, leb}
@@ -18,11 +18,8 @@ pub record Sober (cap : ℕ) (a : Answer) : Type 0 where
   pub none-out : a .out ≡ none → (a .number ≡ 60 → ⊥)
   pub some-out : (w : Whole) → a .out ≡ some w → (a .number ≡ 60) × (length (w .bytes) ≤ cap)
 
-none≢some : (o : Option Whole) (w : Whole) → o ≡ none → o ≡ some w → ⊥
-none≢some o w p q = let z : _≡_ {A = ℕ} 0 1 = cc in omega arith
-
 quiet : (cap n : ℕ) (s : Store) → (n ≡ 60 → ⊥) → Sober cap (record { number = n; out = none; store = s })
-quiet cap n s h = record { none-out = λ e. h; some-out = λ w e. absurd (none≢some none w refl e) }
+quiet cap n s h = record { none-out = λ e. h; some-out = λ w e. absurd (Option·none-ne-some w e) }
 
 both : (cap : ℕ) (b : Bool) (x y : Answer) → Sober cap x → (b ≡ false → Sober cap y) → Sober cap (cond b x y)
 both cap true x y p q = p
@@ -44,7 +41,7 @@ sober cap s p k m =
     (choose cap (complete (plus m p)) _ _
     (both cap (ltb cap (length (wholeOf (plus m p) .bytes))) _ _ (quiet cap 56 s (λ e. omega arith))
     (λ e. record {
-      none-out = λ q. absurd (none≢some (some (wholeOf (plus m p))) (wholeOf (plus m p)) q refl);
+      none-out = λ q. absurd (Option·some-ne-none (wholeOf (plus m p)) q);
       some-out = λ w q. (refl, fits w q (ltb-false cap (length (wholeOf (plus m p) .bytes)) e));
     }))
     (quiet cap 0 (set s k (some (plus m p))) (λ e. omega arith))))))))
