@@ -18,7 +18,7 @@ use Rattle.reassembly.specs.declared.Head.{Head}
 use Rattle.reassembly.specs.declared.Entry.{Entry}
 use Rattle.reassembly.specs.Record.{headOf, headBytes, entryOf, entryBytes, headAt, withHead, entryAt, withEntry, cleared, roomOf}
 use Rattle.reassembly.specs.Calls.{keptRoom}
-use Rattle.reassembly.proofs.Fields.{HeadFits, head-written, entry-written}
+use Rattle.reassembly.proofs.Fields.{HeadFits, four, headRow, entryRow, head-written, entry-written}
 
 -- two numbers that differ are one before the other
 pub apart : (i j : ℕ) → i ≢ j → (i < j) ⊎ (j < i)
@@ -40,16 +40,13 @@ unfolding entryBytes
 entry-wide e = simp (length-append, length-little) refl
 
 -- a head and an entry that were put are read back, each number from its bytes as they are written out
-abbrev fourOf : ℕ → List ℕ
-fourOf x = x % 256 ∷ x / 256 % 256 ∷ x / 65536 % 256 ∷ x / 16777216 ∷ []
-
 little2 : (x : ℕ) → x < 65536 → little (x % 256 ∷ x / 256 ∷ []) ≡ x
 little2 x h = ap little (sym (little-two x h)) ∙ little-back 2 x h
 
-little4 : (x : ℕ) → x < 4294967296 → little (fourOf x) ≡ x
+little4 : (x : ℕ) → x < 4294967296 → little (four x) ≡ x
 little4 x h = ap little (sym (little-four x h)) ∙ little-back 4 x h
 
-little8 : (x : ℕ) → x < 18446744073709551616 → little (fourOf (x % 4294967296) ++ fourOf (x / 4294967296)) ≡ x
+little8 : (x : ℕ) → x < 18446744073709551616 → little (four (x % 4294967296) ++ four (x / 4294967296)) ≡ x
 little8 x h =
     ap little
     (ap₂ (λ (a b : List ℕ). a ++ b) (sym (little-four (x % 4294967296) (omega arith))) (sym (little-four (x / 4294967296) (omega arith))) ∙ little-eight x)
@@ -58,15 +55,12 @@ little8 x h =
 pub head-back : (h : Head) → HeadFits h → headOf (headBytes h) ≡ h
 unfolding headOf
 head-back h f =
-    let w : List ℕ =
-    fourOf (h .id) ++ (fourOf (h .opened % 4294967296) ++ fourOf (h .opened / 4294967296)) ++ fourOf (h .expires)
-    ++ (h .total % 256 ∷ h .total / 256 ∷ []) ++ (h .count ∷ h .last ∷ h .top ∷ h .kind ∷ 0 ∷ 0 ∷ []) in
     ap headOf (head-written h f)
     ∙ (λ j. record {
-      id = (littleAt-reads 3 w 0 (omega arith) ∙ little4 (h .id) (f .id)) j;
-      opened = (littleAt-reads 7 w 4 (omega arith) ∙ little8 (h .opened) (f .opened)) j;
-      expires = (littleAt-reads 3 w 12 (omega arith) ∙ little4 (h .expires) (f .expires)) j;
-      total = (littleAt-reads 1 w 16 (omega arith) ∙ little2 (h .total) (f .total)) j;
+      id = (littleAt-reads 3 (headRow h) 0 (omega arith) ∙ little4 (h .id) (f .id)) j;
+      opened = (littleAt-reads 7 (headRow h) 4 (omega arith) ∙ little8 (h .opened) (f .opened)) j;
+      expires = (littleAt-reads 3 (headRow h) 12 (omega arith) ∙ little4 (h .expires) (f .expires)) j;
+      total = (littleAt-reads 1 (headRow h) 16 (omega arith) ∙ little2 (h .total) (f .total)) j;
       count = h .count;
       last = h .last;
       top = h .top;
@@ -76,11 +70,10 @@ head-back h f =
 pub entry-back : (e : Entry) → e .place < 65536 → e .len < 65536 → entryOf (entryBytes e) ≡ e
 unfolding entryOf
 entry-back e p l =
-    let w : List ℕ = e .place % 256 ∷ e .place / 256 ∷ e .len % 256 ∷ e .len / 256 ∷ [] in
     ap entryOf (entry-written e p l)
     ∙ (λ j. record {
-      place = (littleAt-reads 1 w 0 (omega arith) ∙ little2 (e .place) p) j;
-      len = (littleAt-reads 1 w 2 (omega arith) ∙ little2 (e .len) l) j;
+      place = (littleAt-reads 1 (entryRow e) 0 (omega arith) ∙ little2 (e .place) p) j;
+      len = (littleAt-reads 1 (entryRow e) 2 (omega arith) ∙ little2 (e .len) l) j;
     })
 
 -- zeros
