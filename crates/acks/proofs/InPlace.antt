@@ -6,10 +6,11 @@ use Prim.Native.Nat.{ℕ, _+_, _-_, _%_, _^_, _≤_, _<_}
 use native.Mathlib.Omega.{arith}
 use lib.Dec.{eqb}
 use lib.ListN.{length, set, replicate, length-set, length-append}
-use Rattle.wire.specs.Parts.{part}
-use Rattle.wire.specs.Numbers.{little, littleAt, littleBytes}
+use Rattle.wire.specs.Numbers.{littleBytes}
 use Rattle.wire.proofs.Parts.{length-splice}
 use Rattle.wire.proofs.Numbers.{length-little}
+use Rattle.wire.proofs.Slices.{part-alike}
+use Rattle.wire.proofs.Zeros.{littleAt-zeros}
 use Rattle.acks.specs.declared.Tracker.{Tracker}
 use Rattle.acks.specs.History.{Packets}
 use Rattle.acks.specs.Tracking.{fresh, clearUp, marksAfter, acceptOf, answerOf, registerOf, registerAll}
@@ -64,8 +65,8 @@ holds-all (n ∷ calls) r t h p = holds-all calls (recordAfter r n) (registerOf 
 
 -- 259 zeros are a new tracker
 pub starts : trackerAt (replicate 259 0) ≡ fresh
-unfolding trackerAt fresh littleAt little part
-starts = refl
+unfolding trackerAt fresh
+starts = λ j. record { highest = littleAt-zeros 259 4 0 (omega arith) j; marks = part-alike 0 259 4 255 (omega arith) j }
 
 module _ (calls : List ℕ) (p : Packets calls) where
   held-all : Holds (recordAll (replicate 259 0) calls) (registerAll fresh calls)

@@ -4,13 +4,14 @@ use mathlib.Core.Bool.{true, false}
 use mathlib.Core.List.{List, _++_}
 use Prim.Native.Nat.{ℕ, _+_, _^_, _≤_, _<_, max}
 use native.Mathlib.Omega.{arith}
-use lib.ListN.{length, take, drop, length-append}
+use lib.ListN.{length, length-append}
 use borrow.Author.Tests.{lt-ltb, le-ltb, ne-eqb}
 use borrow.Rule.Slice.PartMut.{putMid}
 use Rattle.wire.specs.Parts.{part, splice}
 use Rattle.wire.specs.Numbers.{Bytes, littleAt, littleBytes}
 use Rattle.wire.proofs.Parts.{part-all, part-left, part-right, part-within, part-add, part-after, splice-part, splice-then}
-use Rattle.wire.proofs.Numbers.{littleAt-again, little-back, length-little}
+use Rattle.wire.proofs.Numbers.{littleAt-again, length-little}
+use Rattle.wire.proofs.Fields.{littleAt-back}
 use Rattle.wire.proofs.Lent.{lent-part}
 use Rattle.acks.specs.declared.Tracker.{Tracker}
 use Rattle.acks.specs.History.{answerTo}
@@ -43,7 +44,7 @@ module _ (r : List ℕ) where
 
   -- a tracker's bytes, read as a tracker
   pub read-back : (t : Tracker) → 259 ≤ length r → t .highest < 256 ^ 4 → length (t .marks) ≡ 255 → trackerAt (splice r 0 (bytesOf t)) ≡ t
-  unfolding trackerAt bytesOf littleAt
+  unfolding trackerAt bytesOf
   read-back t long small size =
       let h : List ℕ = littleBytes 4 (t .highest) in
       let four : length (littleBytes 4 (t .highest)) ≡ 4 = length-little 4 (t .highest) in
@@ -57,25 +58,25 @@ module _ (r : List ℕ) where
       ∙ ap (λ (k : ℕ). part (littleBytes 4 (t .highest) ++ t .marks) k 255) (sym (add-zero-of 4 (length (littleBytes 4 (t .highest))) four))
       ∙ part-right (littleBytes 4 (t .highest)) (t .marks) 0 255
       ∙ part-all (t .marks) 255 (omega arith) in
-      rw (front, back, little-back 4 (t .highest) small)
+      rw (littleAt-back 4 (t .highest) (splice r 0 (littleBytes 4 (t .highest) ++ t .marks)) 0 small front, back)
 
   module _ (top n : ℕ) (is-top : top ≡ littleAt 4 r 0) (long : 259 ≤ length r) where
     -- a refusal leaves every byte
-    pub refused : (a : ℕ) → Bytes r → a ≡ answerTo top (held top (take 255 (drop 4 r))) n → (a ≡ 0 → ⊥) → (a ≡ registerThere r n) × (r ≡ recordAfter r n)
-    unfolding registerThere recordAfter registerOf answerOf trackerAt part
+    pub refused : (a : ℕ) → Bytes r → a ≡ answerTo top (held top (part r 4 255)) n → (a ≡ 0 → ⊥) → (a ≡ registerThere r n) × (r ≡ recordAfter r n)
+    unfolding registerThere recordAfter registerOf answerOf trackerAt
     refused a bytes e ne =
-        let f : a ≡ answerTo (littleAt 4 r 0) (held (littleAt 4 r 0) (take 255 (drop 4 r))) n = e ∙ ap (λ t. answerTo t (held t (take 255 (drop 4 r))) n) is-top in
+        let f : a ≡ answerTo (littleAt 4 r 0) (held (littleAt 4 r 0) (part r 4 255)) n = e ∙ ap (λ t. answerTo t (held t (part r 4 255)) n) is-top in
         (rw (is-long long) f, rw (is-long long, sym f, ne-eqb a 0 ne) (sym (put-back long bytes)))
 
     -- an accepted number: the highest was put, then the marks
-    pub registered : (r1 m : List ℕ) → 0 ≡ answerTo top (held top (take 255 (drop 4 r))) n → r1 ≡ splice r 0 (littleBytes 4 (max top n)) →
-        length m ≡ 255 → m ≡ marksAfter (take 255 (drop 4 r1)) top n → (0 ≡ registerThere r n) × (putMid 4 255 r1 m ≡ recordAfter r n)
-    unfolding registerThere recordAfter registerOf answerOf acceptOf trackerAt bytesOf part
+    pub registered : (r1 m : List ℕ) → 0 ≡ answerTo top (held top (part r 4 255)) n → r1 ≡ splice r 0 (littleBytes 4 (max top n)) →
+        length m ≡ 255 → m ≡ marksAfter (part r1 4 255) top n → (0 ≡ registerThere r n) × (putMid 4 255 r1 m ≡ recordAfter r n)
+    unfolding registerThere recordAfter registerOf answerOf acceptOf trackerAt bytesOf
     registered r1 m e put size marks =
-        let f : 0 ≡ answerTo (littleAt 4 r 0) (held (littleAt 4 r 0) (take 255 (drop 4 r))) n = e ∙ ap (λ t. answerTo t (held t (take 255 (drop 4 r))) n) is-top in
+        let f : 0 ≡ answerTo (littleAt 4 r 0) (held (littleAt 4 r 0) (part r 4 255)) n = e ∙ ap (λ t. answerTo t (held t (part r 4 255)) n) is-top in
         let hi : length (littleBytes 4 (max top n)) ≡ 4 = length-little 4 (max top n) in
         let four : 4 ≡ 0 + length (littleBytes 4 (max top n)) = omega arith in
-        let kept : take 255 (drop 4 r1) ≡ take 255 (drop 4 r) =
+        let kept : part r1 4 255 ≡ part r 4 255 =
         ap (λ (l : List ℕ). part l 4 255) put ∙ part-after r 0 (littleBytes 4 (max top n)) (omega arith) 4 255 (omega arith) in
         let lent : putMid 4 255 r1 m ≡ splice r1 4 m = lent-part r1 4 259 m (omega arith) (omega arith) in
         let whole : putMid 4 255 r1 m ≡ splice r 0 (littleBytes 4 (max top n) ++ m) =

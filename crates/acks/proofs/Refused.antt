@@ -9,7 +9,6 @@ use lib.Dec.{eqb, ltb, leb}
 use lib.ListN.{length}
 use borrow.Author.Tests.{ltb-true, ltb-false, eqb-true, eqb-false, ne-eqb}
 use types.Run.{OneOf}
-use Rattle.wire.specs.Parts.{part}
 use Rattle.wire.specs.Numbers.{Bytes, littleAt}
 use Rattle.blocks.specs.declared.Written.the-variants as Wrote
 use Rattle.blocks.specs.Writing.{writing, roomAfter}
@@ -48,7 +47,7 @@ tracker-numbers t n = answers (t .highest) (held (t .highest) (t .marks)) n
 
 -- a tracker's record
 pub record-stays : (r : List ℕ) (n : ℕ) → Bytes r → (registerThere r n ≡ 0 → ⊥) → recordAfter r n ≡ r
-unfolding short registerThere registerOf answerOf trackerAt part
+unfolding short registerThere registerOf answerOf trackerAt
 record-stays r n bytes = go (ltb (length r) 259) refl
   where
     go : (b : Bool) → ltb (length r) 259 ≡ b → (registerThere r n ≡ 0 → ⊥) → recordAfter r n ≡ r

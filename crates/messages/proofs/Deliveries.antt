@@ -2,10 +2,7 @@
 use mathlib.Core.Path.{_≡_, refl, sym, ap, _∙_}
 use mathlib.Core.Bool.{Bool, false, false≢true}
 use mathlib.Core.List.{List, [], _∷_}
-use Prim.Native.Nat.{ℕ, _-_, _<_}
-use native.Mathlib.Omega.{arith}
-use lib.ListN.{length, take, drop, drop-of-length-le, length-drop}
-use lib.Seq.{take-nil, take-all}
+use Prim.Native.Nat.{ℕ}
 use types.Run.{OneOf}
 use denote.Enum.Declared.{tagOf}
 use Rattle.wire.specs.Parts.{part}
@@ -20,15 +17,6 @@ use Rattle.reassembly.specs.declared.Reply.{Reply}
 use Rattle.reassembly.specs.Calls.{After, after, firstCall, followOnCall}
 use Rattle.messages.specs.declared.Received.{Received}
 use Rattle.messages.specs.Delivery.{Left, left, nothing, wholeAt, rebuiltBy, rebuilt, deliveredBy, delivered}
-
--- a part that starts past the end is empty; one that ends past it is the rest
-pub past-end : (l : List ℕ) (o n : ℕ) → length l < o → [] ≡ part l o n
-unfolding part
-past-end l o n h = sym (ap (take n) (drop-of-length-le l {i = o} (omega arith)) ∙ take-nil n)
-
-pub to-end : (l : List ℕ) (o n : ℕ) → length l - o < n → take (length l - o) (drop o l) ≡ part l o n
-unfolding part
-to-end l o n h = take-all (length l - o) (drop o l) (omega (arith, length-drop o l)) ∙ sym (take-all n (drop o l) (omega (arith, length-drop o l)))
 
 module _ (s rec room out : List ℕ) (second : ℕ) where
   pub whole-left : (b : Block) (k i x : ℕ) (p : Part) (r : Received) → b ≡ Body.I2np k i x p → r ≡ wholeAt k i x p → left r rec room out ≡ deliveredBy s rec room out second b

@@ -15,11 +15,19 @@ pub record HeadFits (h : Head) : Type 0 where
   pub expires : h .expires < 4294967296
   pub total : h .total < 65536
 
-abbrev four : ℕ → List ℕ
+-- the bytes one by one: of a number in four, of a head, of an entry
+abbrev pub four : ℕ → List ℕ
 four x = x % 256 ∷ x / 256 % 256 ∷ x / 65536 % 256 ∷ x / 16777216 ∷ []
 
-pub head-written : (h : Head) → HeadFits h → headBytes h
-    ≡ four (h .id) ++ (four (h .opened % 4294967296) ++ four (h .opened / 4294967296)) ++ four (h .expires) ++ (h .total % 256 ∷ h .total / 256 ∷ []) ++ (h .count ∷ h .last ∷ h .top ∷ h .kind ∷ 0 ∷ 0 ∷ [])
+abbrev pub headRow : Head → List ℕ
+headRow h =
+    four (h .id) ++ (four (h .opened % 4294967296) ++ four (h .opened / 4294967296)) ++ four (h .expires) ++ (h .total % 256 ∷ h .total / 256 ∷ [])
+    ++ (h .count ∷ h .last ∷ h .top ∷ h .kind ∷ 0 ∷ 0 ∷ [])
+
+abbrev pub entryRow : Entry → List ℕ
+entryRow e = e .place % 256 ∷ e .place / 256 ∷ e .len % 256 ∷ e .len / 256 ∷ []
+
+pub head-written : (h : Head) → HeadFits h → headBytes h ≡ headRow h
 unfolding headBytes
 head-written h f =
     rw (
@@ -31,6 +39,6 @@ head-written h f =
       little-two (h .total) (f .total),
     ) refl
 
-pub entry-written : (e : Entry) → e .place < 65536 → e .len < 65536 → entryBytes e ≡ e .place % 256 ∷ e .place / 256 ∷ e .len % 256 ∷ e .len / 256 ∷ []
+pub entry-written : (e : Entry) → e .place < 65536 → e .len < 65536 → entryBytes e ≡ entryRow e
 unfolding entryBytes
 entry-written e p l = rw (little-two (e .place) p, little-two (e .len) l) refl

@@ -9,6 +9,7 @@ use lib.Dec.{eqb, ltb}
 use lib.ListN.{length, getD, replicate}
 use borrow.Author.Tests.{ne-eqb, le-ltb, ltb-true}
 use Rattle.wire.specs.Parts.{part}
+use Rattle.wire.proofs.Slices.{part-none}
 use Rattle.reassembly.specs.declared.Entry.{Entry}
 use Rattle.reassembly.specs.declared.Label.{Label}
 use Rattle.reassembly.specs.Store.{Piece, idOf, Message, isHeld, total, messageOr}
@@ -36,17 +37,13 @@ none-there zero k = refl
 none-there (suc n) zero = refl
 none-there (suc n) (suc k) = none-there n k
 
-part-none : (l : List ℕ) → part l 0 0 ≡ []
-unfolding part
-part-none l = refl
-
 module _ (rec room : List ℕ) (i : ℕ) (rlong : 8576 ≤ length rec) (hi : i < 16) where
   pub table-none : tableAt (cleared rec i) room i ≡ replicate 128 []
   unfolding tableAt
   table-none = series-same (pieceAt (cleared rec i) room i) (λ k. []) 128 [] none-at ∙ series-const {A = List ℕ} [] 0 128
     where
       none-at : (k : ℕ) → k < 128 → pieceAt (cleared rec i) room i k ≡ []
-      none-at k hk = unfold pieceAt in (ap (λ (e : Entry). part (roomOf room i) (e .place) (e .len)) (cleared-entry rec rlong i hi k hk) ∙ part-none (roomOf room i))
+      none-at k hk = unfold pieceAt in (ap (λ (e : Entry). part (roomOf room i) (e .place) (e .len)) (cleared-entry rec rlong i hi k hk) ∙ part-none (roomOf room i) 0)
 
   pub none-held : (k : ℕ) → isHeld (getD (tableAt (cleared rec i) room i) k []) ≡ false
   none-held k = ap (λ (t : List (List ℕ)). isHeld (getD t k [])) table-none ∙ none-there 128 k

@@ -8,10 +8,11 @@ use native.Mathlib.Nat.{eq-or-lt-of-le}
 use native.Mathlib.Numerals.{add-one}
 use native.Mathlib.Omega.{arith}
 use lib.Dec.{eqb, leb}
-use lib.ListN.{length, drop, length-append, length-take, length-drop}
+use lib.ListN.{length, length-append}
 use borrow.Author.Tests.{eq-eqb, ne-eqb, leb-true, leb-false}
 use Rattle.wire.specs.Parts.{part, splice}
 use Rattle.wire.proofs.Parts.{part-cut, length-part, splice-join}
+use Rattle.wire.proofs.Slices.{length-part-min}
 use Rattle.reassembly.specs.Record.{roomOf, entryAt, pieceAt}
 use Rattle.reassembly.specs.Message.{pieceOr, upTo}
 
@@ -43,10 +44,6 @@ pub piece-held : (rec room : List ℕ) (i m : ℕ) (v : List ℕ) (k : ℕ) → 
 unfolding pieceOr
 piece-held rec room i m v k ne = rw (ne-eqb k m ne)
 
-part-short : (l : List ℕ) (p n : ℕ) → length (part l p n) ≤ length l
-unfolding part
-part-short l p n = omega (arith, length-take n (drop p l), length-drop p l)
-
 -- no piece is longer than a slot's room
 pub piece-short : (rec room : List ℕ) (i m : ℕ) (v : List ℕ) (k : ℕ) → 1048560 ≤ length room → i < 16 → length v ≤ 1500 → length (pieceOr rec room i m v k) ≤ 65535
 unfolding pieceOr pieceAt
@@ -54,7 +51,7 @@ piece-short rec room i m v k hm hi hv = short (eqb k m)
   where
     short : (b : Bool) → length (cond b v (part (roomOf room i) (entryAt rec i k .place) (entryAt rec i k .len))) ≤ 65535
     short true = omega arith
-    short false = omega (arith, part-short (roomOf room i) (entryAt rec i k .place) (entryAt rec i k .len), length-room room i hm hi)
+    short false = omega (arith, length-part-min (roomOf room i) (entryAt rec i k .place) (entryAt rec i k .len), length-room room i hm hi)
 
 -- one piece more
 pub more-length : (f : ℕ → List ℕ) (n : ℕ) → length (upTo f (n + 1)) ≡ length (upTo f n) + length (f n)

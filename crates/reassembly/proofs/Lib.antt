@@ -3,7 +3,6 @@ pub mod Table
 pub mod Stores
 pub mod Cases
 pub mod Fields
-pub mod Zeros
 pub mod Scan
 pub mod Joined
 pub mod Ages
@@ -21,3 +20,4 @@ pub mod Sweeps
 pub mod Agreed
 pub mod Refusals
 pub mod Refused
+pub mod Brought

@@ -12,6 +12,7 @@ use lib.ListN.{length, replicate, length-replicate}
 use borrow.Author.Tests.{lt-ltb, le-ltb, ltb-true, ltb-false}
 use Rattle.wire.specs.Parts.{part, splice}
 use Rattle.wire.proofs.Parts.{part-within, length-splice}
+use Rattle.wire.proofs.Slices.{part-alike}
 use Rattle.reassembly.specs.Store.{Message, Store, empty, sweptOne, sweep}
 use Rattle.reassembly.specs.Record.{headOf, headAt, withHead}
 use Rattle.reassembly.specs.Slots.{isFree}
@@ -19,7 +20,7 @@ use Rattle.reassembly.specs.Judge.{noHead, isOld}
 use Rattle.reassembly.specs.Calls.{sweptAt, sweptTo, swept, renewed}
 use Rattle.reassembly.specs.Stands.{series, messageWith, slotAt, stands, Made, Swept, New}
 use Rattle.reassembly.proofs.Series.{series-same}
-use Rattle.reassembly.proofs.Written.{length-head, part-zeros}
+use Rattle.reassembly.proofs.Written.{length-head}
 use Rattle.reassembly.proofs.Others.{Others, others-head, slot-same, made-with, freed-slot, freed-free}
 
 -- a slot is swept as the store sweeps it
@@ -137,7 +138,7 @@ module _ (rec room : List ℕ) (n : ℕ) (lr : n ≤ length rec) (lm : 1048560 �
       ap (λ (l : List ℕ). eqb (headOf l .count) 0)
       (ap (λ (k : ℕ). part blank k 24) z
       ∙ part-within rec 0 (replicate n 0) (omega (arith, wide)) (i * 24) 24 (omega (arith, wide))
-      ∙ part-zeros n (i * 24) 24 (omega arith))
+      ∙ part-alike 0 n (i * 24) 24 (omega arith))
       ∙ ap (λ (k : ℕ). eqb k 0) count-zero
 
   blank-slot : (i : ℕ) → i < 16 → slotAt blank room i ≡ none

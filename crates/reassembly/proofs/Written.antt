@@ -1,23 +1,24 @@
 -- What is read of a record and a room after a head, an entry or a piece was put. Assumes nothing.
-use mathlib.Core.Path.{_≡_, refl, sym, ap, _∙_}
+use mathlib.Core.Path.{_≡_, refl, sym, ap, ap₂, _∙_}
 use mathlib.Core.Logic.{_≢_, _⊎_, inl, inr}
 use mathlib.Core.Bool.{Bool, true, false}
 use mathlib.Core.List.{List, [], _∷_, _++_}
 use Prim.Native.Nat.{ℕ, _+_, _*_, _/_, _%_, _≤_, _<_}
 use native.Mathlib.Omega.{arith}
 use lib.Dec.{ltb}
-use lib.ListN.{length, replicate, length-replicate, getD-replicate, length-append}
-use lib.Seq.{ext-getD}
+use lib.ListN.{length, replicate, length-replicate, length-append}
 use borrow.Author.Tests.{ltb-true, ltb-false}
 use Rattle.wire.specs.Parts.{part, splice}
-use Rattle.wire.specs.Numbers.{little, littleAt}
-use Rattle.wire.proofs.Parts.{part-same, part-other, part-within, part-inside, length-splice, length-part, getD-part}
-use Rattle.wire.proofs.Numbers.{little-append, length-little}
+use Rattle.wire.specs.Numbers.{little}
+use Rattle.wire.proofs.Parts.{part-same, part-other, part-within, part-inside, length-splice}
+use Rattle.wire.proofs.Numbers.{length-little, little-two, little-four, little-eight, little-back, littleAt-reads}
+use Rattle.wire.proofs.Slices.{part-alike}
+use Rattle.wire.proofs.Zeros.{littleAt-zeros}
 use Rattle.reassembly.specs.declared.Head.{Head}
 use Rattle.reassembly.specs.declared.Entry.{Entry}
 use Rattle.reassembly.specs.Record.{headOf, headBytes, entryOf, entryBytes, headAt, withHead, entryAt, withEntry, cleared, roomOf}
 use Rattle.reassembly.specs.Calls.{keptRoom}
-use Rattle.reassembly.proofs.Fields.{HeadFits, head-written, entry-written}
+use Rattle.reassembly.proofs.Fields.{HeadFits, four, headRow, entryRow, head-written, entry-written}
 
 -- two numbers that differ are one before the other
 pub apart : (i j : ℕ) → i ≢ j → (i < j) ⊎ (j < i)
@@ -38,64 +39,50 @@ pub entry-wide : (e : Entry) → length (entryBytes e) ≡ 4
 unfolding entryBytes
 entry-wide e = simp (length-append, length-little) refl
 
-digits2 : (x : ℕ) → x % 256 + (x / 256 + 0 * 256) * 256 ≡ x
-digits2 x = omega arith
+-- a head and an entry that were put are read back, each number from its bytes as they are written out
+little2 : (x : ℕ) → x < 65536 → little (x % 256 ∷ x / 256 ∷ []) ≡ x
+little2 x h = ap little (sym (little-two x h)) ∙ little-back 2 x h
 
-digits4 : (x : ℕ) → x % 256 + (x / 256 % 256 + (x / 65536 % 256 + (x / 16777216 + 0 * 256) * 256) * 256) * 256 ≡ x
-digits4 x = omega arith
+little4 : (x : ℕ) → x < 4294967296 → little (four x) ≡ x
+little4 x h = ap little (sym (little-four x h)) ∙ little-back 4 x h
 
--- a head and an entry that were put are read back
-abbrev fourOf : ℕ → List ℕ
-fourOf x = x % 256 ∷ x / 256 % 256 ∷ x / 65536 % 256 ∷ x / 16777216 ∷ []
-
-little4 : (x : ℕ) → little (fourOf x) ≡ x
-unfolding little
-little4 x = digits4 x
-
-little8 : (x : ℕ) → little (fourOf (x % 4294967296) ++ fourOf (x / 4294967296)) ≡ x
-little8 x =
-    little-append (fourOf (x % 4294967296)) (fourOf (x / 4294967296))
-    ∙ ap (λ (a : ℕ). a + little (fourOf (x / 4294967296)) * 4294967296) (little4 (x % 4294967296))
-    ∙ ap (λ (a : ℕ). x % 4294967296 + a * 4294967296) (little4 (x / 4294967296))
-    ∙ (omega arith)
+little8 : (x : ℕ) → x < 18446744073709551616 → little (four (x % 4294967296) ++ four (x / 4294967296)) ≡ x
+little8 x h =
+    ap little
+    (ap₂ (λ (a b : List ℕ). a ++ b) (sym (little-four (x % 4294967296) (omega arith))) (sym (little-four (x / 4294967296) (omega arith))) ∙ little-eight x)
+    ∙ little-back 8 x h
 
 pub head-back : (h : Head) → HeadFits h → headOf (headBytes h) ≡ h
-unfolding headOf littleAt part
+unfolding headOf
 head-back h f =
     ap headOf (head-written h f)
     ∙ (λ j. record {
-      id = little4 (h .id) j;
-      opened = little8 (h .opened) j;
-      expires = little4 (h .expires) j;
-      total = two (h .total) j;
+      id = (littleAt-reads 3 (headRow h) 0 (omega arith) ∙ little4 (h .id) (f .id)) j;
+      opened = (littleAt-reads 7 (headRow h) 4 (omega arith) ∙ little8 (h .opened) (f .opened)) j;
+      expires = (littleAt-reads 3 (headRow h) 12 (omega arith) ∙ little4 (h .expires) (f .expires)) j;
+      total = (littleAt-reads 1 (headRow h) 16 (omega arith) ∙ little2 (h .total) (f .total)) j;
       count = h .count;
       last = h .last;
       top = h .top;
       kind = h .kind;
     })
-  where
-    two : (x : ℕ) → little (x % 256 ∷ x / 256 ∷ []) ≡ x
-    two x = unfold little in digits2 x
 
 pub entry-back : (e : Entry) → e .place < 65536 → e .len < 65536 → entryOf (entryBytes e) ≡ e
-unfolding entryOf littleAt part little
+unfolding entryOf
 entry-back e p l =
     ap entryOf (entry-written e p l)
-    ∙ (λ j. record { place = digits2 (e .place) j; len = digits2 (e .len) j })
+    ∙ (λ j. record {
+      place = (littleAt-reads 1 (entryRow e) 0 (omega arith) ∙ little2 (e .place) p) j;
+      len = (littleAt-reads 1 (entryRow e) 2 (omega arith) ∙ little2 (e .len) l) j;
+    })
 
 -- zeros
-pub part-zeros : (n p m : ℕ) → p + m ≤ n → part {A = ℕ} (replicate n 0) p m ≡ replicate m 0
-part-zeros n p m h =
-    let lp : length (part {A = ℕ} (replicate n 0) p m) ≡ m = length-part {A = ℕ} (replicate n 0) p m (omega (arith, length-replicate {A = ℕ} n 0)) in
-    ext-getD {A = ℕ} 0 (part (replicate n 0) p m) (replicate m 0) (lp ∙ sym (length-replicate {A = ℕ} m 0))
-    (λ k kl. getD-part {A = ℕ} (replicate n 0) p m k 0 (omega arith) ∙ getD-replicate n (p + k) 0 0 (omega arith) ∙ sym (getD-replicate m k 0 0 (omega arith)))
-
 abbrev pub noEntry : Entry
 noEntry = record { place = 0; len = 0 }
 
 entry-zeros : entryOf (replicate 4 0) ≡ noEntry
-unfolding entryOf littleAt part little
-entry-zeros = refl
+unfolding entryOf
+entry-zeros = λ j. record { place = littleAt-zeros 4 2 0 (omega arith) j; len = littleAt-zeros 4 2 2 (omega arith) j }
 
 module _ (rec : List ℕ) (long : 8576 ≤ length rec) (i : ℕ) (hi : i < 16) where
   module _ (h : Head) where
@@ -189,7 +176,7 @@ module _ (rec : List ℕ) (long : 8576 ≤ length rec) (i : ℕ) (hi : i < 16) w
   pub cleared-entry : (k : ℕ) → k < 128 → entryAt (cleared rec i) i k ≡ noEntry
   unfolding cleared entryAt zeros
   cleared-entry k hk =
-      ap entryOf (part-within rec (384 + i * 512) zeros fits-zeros (k * 4) 4 (omega (arith, wide-zeros)) ∙ part-zeros 512 (k * 4) 4 (omega arith))
+      ap entryOf (part-within rec (384 + i * 512) zeros fits-zeros (k * 4) 4 (omega (arith, wide-zeros)) ∙ part-alike 0 512 (k * 4) 4 (omega arith))
       ∙ entry-zeros
 
 -- the room of slot i with a piece put after t bytes, and the other slots' rooms

@@ -1,4 +1,4 @@
--- Laws of parts and splices as slices give them: nothing put, one element more, a range cut to what is there. Assumes nothing.
+-- Laws of parts and splices as slices give them: a range, nothing taken or put, one element more, a range cut to what is there. Assumes nothing.
 use mathlib.Core.Path.{_≡_, refl, sym, ap, _∙_}
 use mathlib.Core.Bool.{Bool, true, false}
 use mathlib.Core.List.{List, [], _∷_, _++_, append-nil}
@@ -6,13 +6,44 @@ use Prim.Native.Nat.{ℕ, _+_, _-_, _≤_, _<_, min}
 use native.Mathlib.Nat.{add-zero}
 use native.Mathlib.Omega.{arith}
 use lib.Dec.{ltb}
-use lib.ListN.{length, take, drop, set, take-append-drop, length-drop, drop-of-length-le}
-use lib.Seq.{take-all}
+use lib.ListN.{length, take, drop, set, replicate, take-append-drop, length-take, length-drop, length-replicate, getD-replicate, drop-of-length-le}
+use lib.Seq.{take-all, ext-getD}
 use borrow.Author.Tests.{ltb-true, ltb-false}
 use Rattle.wire.specs.Parts.{part, splice}
-use Rattle.wire.proofs.Parts.{length-splice, stores-splice, splice-join}
+use Rattle.wire.proofs.Parts.{part-is, part-cut, length-part, getD-part, length-splice, stores-splice, splice-join}
 
 module _ {A : Type 0} where
+  -- the slice of n elements from place o on
+  pub slice-is : (l : List A) (o n : ℕ) → take (o + n - o) (drop o l) ≡ part l o n
+  slice-is l o n =
+      let e : o + n - o ≡ n = omega arith in
+      ap (λ (k : ℕ). take k (drop o l)) e ∙ part-is l o n
+
+  -- the slice from place o to the end is a part that runs past the end
+  pub slice-to-end : (l : List A) (o n : ℕ) → length l ≤ o + n → take (length l - o) (drop o l) ≡ part l o n
+  slice-to-end l o n h = take-all (length l - o) (drop o l) (omega (arith, length-drop o l)) ∙ sym (part-cut l o n h)
+
+  -- nothing stands past the end
+  pub part-past : (l : List A) (o n : ℕ) → length l ≤ o → part l o n ≡ []
+  part-past l o n h = part-cut l o n (omega arith) ∙ drop-of-length-le l {i = o} h
+
+  -- nothing taken
+  pub part-none : (l : List A) (o : ℕ) → part l o 0 ≡ []
+  unfolding part
+  part-none l o = refl
+
+  -- a part is as long as what is there
+  pub length-part-min : (l : List A) (o n : ℕ) → length (part l o n) ≡ min n (length l - o)
+  unfolding part
+  length-part-min l o n = length-take n (drop o l) ∙ ap (min n) (length-drop o l)
+
+  -- a part of elements that are all the same
+  pub part-alike : (x : A) (m o n : ℕ) → o + n ≤ m → part (replicate m x) o n ≡ replicate n x
+  part-alike x m o n h =
+      let lp : length (part (replicate m x) o n) ≡ n = length-part (replicate m x) o n (omega (arith, length-replicate m x)) in
+      ext-getD x (part (replicate m x) o n) (replicate n x) (lp ∙ sym (length-replicate n x))
+      (λ i hi. getD-part (replicate m x) o n i x (omega arith) ∙ getD-replicate m (o + i) x x (omega arith) ∙ sym (getD-replicate n i x x (omega arith)))
+
   -- nothing put
   pub splice-none : (l : List A) (o : ℕ) → splice l o [] ≡ l
   unfolding splice

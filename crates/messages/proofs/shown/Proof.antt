@@ -1,9 +1,5 @@
-use Prim.Native.Nat.{ℕ, _+_, _-_}
-use native.Mathlib.Omega.{arith}
-use lib.ListN.{take, drop}
-use Rattle.wire.specs.Parts.{part}
-use Rattle.messages.proofs.Deliveries.{past-end, to-end}
-use mathlib.Core.Path.{_≡_, ap}
+use Rattle.wire.proofs.Slices.{slice-is, slice-to-end, part-past}
+use mathlib.Core.Path.{sym}
 use borrow.Author.Needs.{needs}
 use Rattle.messages.proofs.shown.Statement.{statement}
 use Rattle.messages.proofs.shown.Tie as tie
@@ -18,7 +14,7 @@ part-result-end : tie.Need-part-result-end
 part-result-end c = search needs
 
 returns : tie.Need-returns
-returns c = past-end (c .before .before .args .b .now) (c .before .before .args .start) (c .before .before .args .len) (search needs)
+returns c = sym (part-past (c .before .before .args .b .now) (c .before .before .args .start) (c .before .before .args .len) (search needs))
 
 sub-if2 : tie.Need-sub-if2
 sub-if2 c = search needs
@@ -33,7 +29,7 @@ part-result-end-2 : tie.Need-part-result-end-2
 part-result-end-2 c = search needs
 
 returns-2 : tie.Need-returns-2
-returns-2 c = to-end (c .before .before .before .args .b .now) (c .before .before .before .args .start) (c .before .before .before .args .len) (search needs)
+returns-2 c = slice-to-end (c .before .before .before .args .b .now) (c .before .before .before .args .start) (c .before .before .before .args .len) (search needs)
 
 add-end : tie.Need-add-end
 add-end c = search needs
@@ -48,11 +44,7 @@ part-result-end-3 : tie.Need-part-result-end-3
 part-result-end-3 c = search needs
 
 returns-3 : tie.Need-returns-3
-unfolding part
-returns-3 c =
-    let a = c .before .before .before .args in
-    let e : a .start + a .len - a .start ≡ a .len = omega arith in
-    ap (λ (z : ℕ). take z (drop (a .start) (a .b .now))) e
+returns-3 c = slice-is (c .before .before .before .args .b .now) (c .before .before .before .args .start) (c .before .before .before .args .len)
 
 pub shown-spec : {M : Type 1} → statement M
 shown-spec =

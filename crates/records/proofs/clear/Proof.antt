@@ -4,7 +4,7 @@ use lib.ListN.{length, length-set, replicate}
 use lib.Seq.{paste, paste-zero}
 use mathlib.Core.Path.{_≡_, refl}
 use Prim.Native.Nat.{_≤_, _-_, _+_}
-use Rattle.reassembly.proofs.Zeros.{zero-turn, zero-end}
+use Rattle.wire.proofs.Zeros.{zero-turn, zero-end}
 use Rattle.records.proofs.clear.Statement.{statement}
 use Rattle.records.proofs.clear.Tie as tie
 

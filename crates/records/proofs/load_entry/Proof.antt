@@ -1,8 +1,6 @@
-use mathlib.Core.Path.{_≡_, ap, _∙_}
-use Prim.Native.Nat.{ℕ, _+_, _-_, _*_}
-use native.Mathlib.Omega.{arith}
-use lib.ListN.{take, drop}
-use Rattle.wire.specs.Parts.{part}
+use mathlib.Core.Path.{ap, _∙_}
+use Prim.Native.Nat.{_+_, _*_}
+use Rattle.wire.proofs.Slices.{slice-is}
 use Rattle.reassembly.specs.Record.{entryAt, entryOf}
 use borrow.Author.Needs.{needs}
 use Rattle.records.proofs.load_entry.Statement.{statement}
@@ -36,12 +34,10 @@ entry-of-requires : tie.Need-entry-of-requires
 entry-of-requires c κs = search needs
 
 returns : tie.Need-returns
-unfolding entryAt part
+unfolding entryAt
 returns c =
     let a = c .before .before .before .args in
-    let p : ℕ = 384 + a .i * 512 + a .k * 4 in
-    let e : p + 4 - p ≡ 4 = omega arith in
-    c .entry-of .ensures ∙ ap (λ (z : ℕ). entryOf (take z (drop p (a .rec .now)))) e
+    c .entry-of .ensures ∙ ap entryOf (slice-is (a .rec .now) (384 + a .i * 512 + a .k * 4) 4)
 
 pub load-entry-spec : {M : Type 1} → statement M
 load-entry-spec =

@@ -1,8 +1,6 @@
-use mathlib.Core.Path.{_≡_, ap, _∙_}
-use Prim.Native.Nat.{ℕ, _+_, _-_, _*_}
-use native.Mathlib.Omega.{arith}
-use lib.ListN.{take, drop}
-use Rattle.wire.specs.Parts.{part}
+use mathlib.Core.Path.{ap, _∙_}
+use Prim.Native.Nat.{_*_}
+use Rattle.wire.proofs.Slices.{slice-is}
 use Rattle.reassembly.specs.Record.{headAt, headOf}
 use borrow.Author.Needs.{needs}
 use Rattle.records.proofs.load_head.Statement.{statement}
@@ -27,11 +25,10 @@ head-of-requires : tie.Need-head-of-requires
 head-of-requires c κs = search needs
 
 returns : tie.Need-returns
-unfolding headAt part
+unfolding headAt
 returns c =
     let a = c .before .before .before .args in
-    let e : a .i * 24 + 24 - a .i * 24 ≡ 24 = omega arith in
-    c .head-of .ensures ∙ ap (λ (k : ℕ). headOf (take k (drop (a .i * 24) (a .rec .now)))) e
+    c .head-of .ensures ∙ ap headOf (slice-is (a .rec .now) (a .i * 24) 24)
 
 pub load-head-spec : {M : Type 1} → statement M
 load-head-spec =

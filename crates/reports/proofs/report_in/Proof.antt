@@ -1,7 +1,8 @@
 use native.Mathlib.Omega.{arith}
-use mathlib.Core.Path.{ap, _∙_}
-use lib.ListN.{take, drop}
-use Rattle.wire.specs.Parts.{part}
+use mathlib.Core.Path.{ap₂, _∙_}
+use mathlib.Core.List.{List}
+use Prim.Native.Nat.{ℕ}
+use Rattle.wire.proofs.Parts.{part-is}
 use Rattle.acks.specs.Tracking.{mark}
 use Rattle.acks.specs.Reporting.{reportOf, ackInfo}
 use Rattle.acks.specs.Recorded.{trackerAt, reportThere}
@@ -33,12 +34,12 @@ report-of-requires : tie.Need-report-of-requires
 report-of-requires c κs = search needs
 
 returns-2 : tie.Need-returns-2
-unfolding reportThere ackInfo trackerAt part
+unfolding reportThere ackInfo trackerAt
 returns-2 c =
     let a = c .before .before .before .before .before .args in
     rw (is-long (a .tracker .now) (omega arith))
     (c .report-of .ensures
-    ∙ ap (λ t. reportOf t (mark (take 255 (drop 4 (a .tracker .now))))) (c .before .before .le-u32 .ensures))
+    ∙ ap₂ (λ (t : ℕ) (m : List ℕ). reportOf t (mark m)) (c .before .before .le-u32 .ensures) (part-is (a .tracker .now) 4 255))
 
 pub report-in-spec : {M : Type 1} → statement M
 report-in-spec =

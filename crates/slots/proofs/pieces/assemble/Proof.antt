@@ -2,9 +2,10 @@ use borrow.Author.Needs.{needs}
 use native.Mathlib.Omega.{arith}
 use mathlib.Core.List.{List}
 use lib.ListN.{length}
-use mathlib.Core.Path.{_≡_, ap, _∙_}
+use mathlib.Core.Path.{_≡_, refl, sym, ap, _∙_}
 use Prim.Native.Nat.{ℕ, _≤_, _-_, _+_}
 use Rattle.wire.specs.Parts.{splice}
+use Rattle.wire.proofs.Slices.{splice-none}
 use Rattle.reassembly.specs.Message.{pieceOr, upTo, messageOf}
 use Rattle.reassembly.proofs.Joined.{more-length, more-mono, laid-turn}
 use Rattle.slots.proofs.pieces.assemble.Statement.{statement}
@@ -17,8 +18,7 @@ abbrev μ-loop : tie.MeasureT-loop
 μ-loop rec room out₀ i m v last at₀ k₀ out at k = last + 1 - k
 
 loop-holds : tie.Need-loop-holds Inv-loop μ-loop
-unfolding splice
-loop-holds c = search needs
+loop-holds c = (search needs, refl, refl, sym (splice-none (c .before .before .before .before .args .out .now) 0))
 
 lay-down-requires : tie.Need-lay-down-requires Inv-loop μ-loop
 unfolding messageOf

@@ -1,8 +1,10 @@
 use mathlib.Core.Path.{_≡_, ap, _∙_}
+use mathlib.Core.List.{List}
 use Prim.Native.Nat.{ℕ, _+_, _-_, _*_}
 use native.Mathlib.Omega.{arith}
 use lib.ListN.{take, drop}
 use Rattle.wire.specs.Parts.{part}
+use Rattle.wire.proofs.Slices.{slice-is}
 use Rattle.reassembly.specs.Record.{roomOf, pieceAt}
 use Rattle.reassembly.proofs.Joined.{piece-cut}
 use borrow.Author.Needs.{needs}
@@ -49,20 +51,18 @@ part-result-end : tie.Need-part-result-end
 part-result-end c = search needs
 
 returns : tie.Need-returns
-unfolding part roomOf pieceAt
+unfolding roomOf pieceAt
 returns c =
     let a = c .before .before .before .before .before .before .before .before .args in
     let p = c .before .before .before .before .usize-from-u16 .result in
     let n = c .before .before .before .usize-from-u162 .result in
     let r = c .before .before .cut .result in
     let b : ℕ = a .i * 65535 in
-    let e₁ : p + r - p ≡ r = omega arith in
-    let e₂ : b + 65535 - b ≡ 65535 = omega arith in
     let q : part (roomOf (a .room .now) (a .i)) p r ≡ part (roomOf (a .room .now) (a .i)) p n =
     piece-cut (a .room .now) (a .i) p n r (omega arith) (omega arith) (omega arith) (c .before .before .cut .ensures)
     in
-    ap (λ (z : ℕ). take z (drop p (take (b + 65535 - b) (drop b (a .room .now))))) e₁
-    ∙ ap (λ (z : ℕ). take r (drop p (take z (drop b (a .room .now))))) e₂
+    ap (λ (z : List ℕ). take (p + r - p) (drop p z)) (slice-is (a .room .now) b 65535)
+    ∙ slice-is (part (a .room .now) b 65535) p r
     ∙ q
     ∙ cc
 

@@ -1,9 +1,11 @@
 use native.Mathlib.Omega.{arith}
-use mathlib.Core.Path.{_≡_, sym, ap, _∙_}
+use mathlib.Core.Path.{_≡_, sym, ap₂, _∙_}
 use mathlib.Core.Bool.{true, false}
-use lib.ListN.{take, drop}
+use mathlib.Core.List.{List}
+use Prim.Native.Nat.{ℕ}
 use Rattle.wire.specs.Parts.{part}
 use Rattle.wire.specs.Numbers.{littleAt}
+use Rattle.wire.proofs.Parts.{part-is}
 use Rattle.acks.specs.Tracking.{held}
 use Rattle.acks.specs.Recorded.{trackerAt, duplicateThere}
 use Rattle.acks.proofs.Recording.{is-short, is-long}
@@ -31,20 +33,20 @@ holds-requires : tie.Need-holds-requires
 holds-requires c κs = search needs
 
 returns-2 : tie.Need-returns-2
-unfolding duplicateThere trackerAt part
+unfolding duplicateThere trackerAt
 returns-2 c =
     let a = c .before .before .before .before .before .before .args in
-    let e : held (littleAt 4 (a .tracker .now) 0) (take 255 (drop 4 (a .tracker .now))) (a .n) ≡ true =
-    ap (λ t. held t (take 255 (drop 4 (a .tracker .now))) (a .n)) (sym (c .before .before .before .le-u32 .ensures))
+    let e : held (littleAt 4 (a .tracker .now) 0) (part (a .tracker .now) 4 255) (a .n) ≡ true =
+    ap₂ (λ (t : ℕ) (m : List ℕ). held t m (a .n)) (sym (c .before .before .before .le-u32 .ensures)) (sym (part-is (a .tracker .now) 4 255))
     ∙ sym (c .before .holds .ensures) ∙ c .if2 .taken in
     rw (is-long (a .tracker .now) (omega arith), e)
 
 returns-3 : tie.Need-returns-3
-unfolding duplicateThere trackerAt part
+unfolding duplicateThere trackerAt
 returns-3 c =
     let a = c .before .before .before .before .before .before .args in
-    let e : held (littleAt 4 (a .tracker .now) 0) (take 255 (drop 4 (a .tracker .now))) (a .n) ≡ false =
-    ap (λ t. held t (take 255 (drop 4 (a .tracker .now))) (a .n)) (sym (c .before .before .before .le-u32 .ensures))
+    let e : held (littleAt 4 (a .tracker .now) 0) (part (a .tracker .now) 4 255) (a .n) ≡ false =
+    ap₂ (λ (t : ℕ) (m : List ℕ). held t m (a .n)) (sym (c .before .before .before .le-u32 .ensures)) (sym (part-is (a .tracker .now) 4 255))
     ∙ sym (c .before .holds .ensures) ∙ c .if2 .left in
     rw (is-long (a .tracker .now) (omega arith), e)
 

@@ -1,12 +1,13 @@
 use Prim.Native.Nat.{ℕ, _≤_, max}
-use Rattle.wire.specs.Parts.{splice}
-use lib.Seq.{length-take-le}
+use mathlib.Core.List.{List}
+use Rattle.wire.specs.Parts.{part, splice}
 use Rattle.wire.specs.Numbers.{littleBytes}
+use Rattle.wire.proofs.Parts.{part-is, length-part}
 use Rattle.acks.specs.History.{answerTo}
-use Rattle.acks.specs.Tracking.{held}
+use Rattle.acks.specs.Tracking.{held, marksAfter}
 use native.Mathlib.Omega.{arith}
 use mathlib.Core.Path.{_≡_, sym, ap, _∙_}
-use lib.ListN.{length, take, drop, length-drop}
+use lib.ListN.{length}
 use Rattle.acks.proofs.Recording.{short-refused, refused, registered}
 use borrow.Author.Needs.{needs}
 use Rattle.tracker.proofs.recorded.register_in.Statement.{statement}
@@ -37,7 +38,8 @@ returns-2 : tie.Need-returns-2
 returns-2 c =
     let a = c .before .before .before .before .before .before .before .before .args in
     refused (a .tracker .now) (c .before .before .before .before .le-u32 .result) (a .n) (c .before .before .before .before .le-u32 .ensures) (omega arith)
-    (c .before .answer .result) (λ i. c .before .before .before .before .before .before .before .slice-known .given i .fits) (c .before .answer .ensures) (c .if2 .taken)
+    (c .before .answer .result) (λ i. c .before .before .before .before .before .before .before .slice-known .given i .fits)
+    (c .before .answer .ensures ∙ ap (λ (m : List ℕ). answerTo (c .before .before .before .before .le-u32 .result) (held (c .before .before .before .before .le-u32 .result) m) (a .n)) (part-is (a .tracker .now) 4 255)) (c .if2 .taken)
 
 larger-requires : tie.Need-larger-requires
 larger-requires c κs = search needs
@@ -65,14 +67,17 @@ returns-3 c =
     let a = c .before .before .before .before .before .before .before .before .before .before .before .before .before .before .before .before .before .args in
     let top = c .before .before .before .before .before .before .before .before .before .before .before .before .before .le-u32 .result in
     let long : 259 ≤ length (a .tracker .now) = c .before .before .before .before .before .before .before .before .before .before .before .before .before .before .before .if1 .left in
-    let zero : 0 ≡ answerTo top (held top (take 255 (drop 4 (a .tracker .now)))) (a .n) = sym (c .before .before .before .before .before .before .before .before .before .if2 .left) ∙ c .before .before .before .before .before .before .before .before .before .before .answer .ensures in
+    let zero : 0 ≡ answerTo top (held top (part (a .tracker .now) 4 255)) (a .n) = sym (c .before .before .before .before .before .before .before .before .before .if2 .left) ∙ c .before .before .before .before .before .before .before .before .before .before .answer .ensures
+    ∙ ap (λ (m : List ℕ). answerTo top (held top m) (a .n)) (part-is (a .tracker .now) 4 255) in
     let put : c .before .before .before .before .before .before .put-u32-le .last .0 ≡ splice (a .tracker .now) 0 (littleBytes 4 (max top (a .n))) =
     c .before .before .before .before .before .before .put-u32-le .ensures ∙ ap (λ (x : ℕ). splice (a .tracker .now) 0 (littleBytes 4 x)) (c .before .before .before .before .before .before .before .larger .ensures) in
     let size : length (c .before .before .accept .last .0) ≡ 255 =
     c .before .before .accept .kept .0
-    ∙ length-take-le 255 (drop 4 (c .before .before .before .before .before .before .put-u32-le .last .0)) (omega (arith, length-drop 4 (c .before .before .before .before .before .before .put-u32-le .last .0), c .before .before .before .before .before .before .put-u32-le .kept .0)) in
+    ∙ ap length (part-is (c .before .before .before .before .before .before .put-u32-le .last .0) 4 255)
+    ∙ length-part (c .before .before .before .before .before .before .put-u32-le .last .0) 4 255 (omega (arith, c .before .before .before .before .before .before .put-u32-le .kept .0)) in
     registered (a .tracker .now) top (a .n) (c .before .before .before .before .before .before .before .before .before .before .before .before .before .le-u32 .ensures) long
-    (c .before .before .before .before .before .before .put-u32-le .last .0) (c .before .before .accept .last .0) zero put size (c .before .before .accept .ensures)
+    (c .before .before .before .before .before .before .put-u32-le .last .0) (c .before .before .accept .last .0) zero put size
+    (c .before .before .accept .ensures ∙ ap (λ (m : List ℕ). marksAfter m top (a .n)) (part-is (c .before .before .before .before .before .before .put-u32-le .last .0) 4 255))
 
 pub register-in-spec : {M : Type 1} → statement M
 register-in-spec =
