@@ -10,8 +10,7 @@ use borrow.Rule.Slice.PartMut.{putMid}
 use Rattle.wire.specs.Parts.{part, splice}
 use Rattle.wire.specs.Numbers.{Bytes, littleAt, littleBytes}
 use Rattle.wire.proofs.Parts.{part-all, part-left, part-right, part-within, part-add, part-after, splice-part, splice-then}
-use Rattle.wire.proofs.Numbers.{littleAt-again, length-little}
-use Rattle.wire.proofs.Fields.{littleAt-back}
+use Rattle.wire.proofs.Numbers.{littleAt-again, length-little, littleAt-back}
 use Rattle.wire.proofs.Lent.{lent-part}
 use Rattle.acks.specs.declared.Tracker.{Tracker}
 use Rattle.acks.specs.History.{answerTo}

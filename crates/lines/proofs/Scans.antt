@@ -8,7 +8,8 @@ use native.Mathlib.Numerals.{add-one}
 use lib.ListN.{length, getD, take, drop, drop-of-length-le}
 use lib.Seq.{drop-cons}
 use borrow.Author.Tests.{eq-eqb, ne-eqb}
-use Rattle.wire.specs.Parts.{part}
+use Rattle.wire.proofs.Parts.{part-is}
+use Rattle.wire.proofs.Slices.{part-past}
 use Rattle.lines.specs.Fields.{ends, lead, fieldAt, wholeUpTo}
 
 -- ---- what stands before an end
@@ -35,14 +36,14 @@ module _ (own : ℕ) (l : List ℕ) (i : ℕ) where
 
 module _ (text : List ℕ) (at : ℕ) where
   pub field-past : length text < at → [] ≡ fieldAt text at
-  unfolding fieldAt part lead
-  field-past h = rw (drop-of-length-le text {i = at} (omega arith))
+  unfolding fieldAt
+  field-past h = sym (part-past text at (lead 32 (drop at text)) (omega arith))
 
   pub field-found : (end : ℕ) → end ≡ at + lead 32 (drop at text) → take (end - at) (drop at text) ≡ fieldAt text at
-  unfolding fieldAt part
+  unfolding fieldAt
   field-found end h =
       let e : end - at ≡ lead 32 (drop at text) = omega arith in
-      ap (λ (n : ℕ). take n (drop at text)) e
+      ap (λ (n : ℕ). take n (drop at text)) e ∙ part-is text at (lead 32 (drop at text))
 
 -- ---- whole lines
 

@@ -9,7 +9,7 @@ use lib.Dec.{eqb, ltb}
 use lib.ListN.{length, getD, replicate}
 use borrow.Author.Tests.{ne-eqb, le-ltb, ltb-true}
 use Rattle.wire.specs.Parts.{part}
-use Rattle.wire.proofs.Slices.{part-none}
+use Rattle.wire.proofs.Parts.{part-none}
 use Rattle.reassembly.specs.declared.Entry.{Entry}
 use Rattle.reassembly.specs.declared.Label.{Label}
 use Rattle.reassembly.specs.Store.{Piece, idOf, Message, isHeld, total, messageOr}

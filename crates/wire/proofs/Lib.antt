@@ -6,5 +6,4 @@ pub mod Numbers
 pub mod Copying
 pub mod Lent
 pub mod Slices
-pub mod Fields
 pub mod Zeros

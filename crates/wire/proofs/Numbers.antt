@@ -11,16 +11,6 @@ use Rattle.wire.specs.Parts.{part}
 use Rattle.wire.specs.Numbers.{Bytes, little, big, littleBytes, bigBytes, littleAt, bigAt}
 use Rattle.wire.proofs.Parts.{reads, part-add, part-part, part-reads, length-part}
 
--- ---- a number at a place is that of the part there
-
-pub littleAt-is : (n : ℕ) (l : List ℕ) (o : ℕ) → littleAt n l o ≡ little (part l o n)
-unfolding littleAt
-littleAt-is n l o = refl
-
-pub bigAt-is : (n : ℕ) (l : List ℕ) (o : ℕ) → bigAt n l o ≡ big (part l o n)
-unfolding bigAt
-bigAt-is n l o = refl
-
 -- ---- lists of bytes
 
 pub bytes-append : (a b : List ℕ) → Bytes a → Bytes b → Bytes (a ++ b)

@@ -28,10 +28,6 @@ module _ {A : Type 0} where
   unfolding part
   part-is l o n = refl
 
-  pub splice-is : (l : List A) (o : ℕ) (v : List A) → splice l o v ≡ take o l ++ v ++ drop (o + length v) l
-  unfolding splice
-  splice-is l o v = refl
-
   pub length-part : (l : List A) (o n : ℕ) → o + n ≤ length l → length (part l o n) ≡ n
   unfolding part
   length-part l o n h = length-take-le n (drop o l) (omega (arith, length-drop o l))

@@ -1,4 +1,4 @@
--- Laws of parts and splices as slices give them: a range, nothing taken or put, one element more, a range cut to what is there. Assumes nothing.
+-- Laws of parts and splices as slices give them: a range, nothing put, one element more, a range cut to what is there. Assumes nothing.
 use mathlib.Core.Path.{_≡_, refl, sym, ap, _∙_}
 use mathlib.Core.Bool.{Bool, true, false}
 use mathlib.Core.List.{List, [], _∷_, _++_, append-nil}
@@ -26,11 +26,6 @@ module _ {A : Type 0} where
   -- nothing stands past the end
   pub part-past : (l : List A) (o n : ℕ) → length l ≤ o → part l o n ≡ []
   part-past l o n h = part-cut l o n (omega arith) ∙ drop-of-length-le l {i = o} h
-
-  -- nothing taken
-  pub part-none : (l : List A) (o : ℕ) → part l o 0 ≡ []
-  unfolding part
-  part-none l o = refl
 
   -- a part is as long as what is there
   pub length-part-min : (l : List A) (o n : ℕ) → length (part l o n) ≡ min n (length l - o)

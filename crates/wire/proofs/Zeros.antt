@@ -8,7 +8,7 @@ use lib.ListN.{length, set, replicate, length-replicate, getD-replicate}
 use lib.Seq.{paste}
 use Rattle.wire.specs.Parts.{splice}
 use Rattle.wire.specs.Numbers.{littleBytes, littleAt}
-use Rattle.wire.proofs.Fields.{littleAt-back}
+use Rattle.wire.proofs.Numbers.{littleAt-back}
 use Rattle.wire.proofs.Copying.{copy-turn, copy-end}
 use Rattle.wire.proofs.Slices.{part-alike}
 

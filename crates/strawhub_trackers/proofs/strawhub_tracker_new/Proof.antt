@@ -1,18 +1,13 @@
-use Prim.Native.Nat.{_<_}
-use lib.ListN.{length}
 use mathlib.Core.Path.{refl}
-use borrow.Author.Tests.{lt-ltb, le-ltb}
-use Rattle.acks.specs.Recorded.{short}
+use Rattle.acks.proofs.Recording.{is-short, is-long}
 use Rattle.outcomes.specs.Trackers.{newAnswer, newRecord}
 use borrow.Author.Needs.{needs}
 use Rattle.strawhub_trackers.proofs.strawhub_tracker_new.Statement.{statement}
 use Rattle.strawhub_trackers.proofs.strawhub_tracker_new.Tie as tie
 
 returns : tie.Need-returns
-unfolding newAnswer newRecord short
-returns c =
-    let h : length (c .before .before .args .tracker .now) < 259 = c .if1 .taken in
-    rw (lt-ltb (length (c .before .before .args .tracker .now)) 259 h) (refl, refl)
+unfolding newAnswer newRecord
+returns c = rw (is-short (c .before .before .args .tracker .now) (c .if1 .taken)) (refl, refl)
 
 slice-aggregate-copy-to : tie.Need-slice-aggregate-copy-to
 slice-aggregate-copy-to c = search needs
@@ -24,8 +19,8 @@ same-length : tie.Need-same-length
 same-length c = search needs
 
 returns-2 : tie.Need-returns-2
-unfolding newAnswer newRecord short
-returns-2 c = rw (le-ltb _ _ (c .before .before .before .before .before .if1 .left)) (refl, c .before .before .copy-to .ensures)
+unfolding newAnswer newRecord
+returns-2 c = rw (is-long _ (c .before .before .before .before .before .if1 .left)) (refl, c .before .before .copy-to .ensures)
 
 pub strawhub-tracker-new-spec : {M : Type 1} → statement M
 strawhub-tracker-new-spec =
