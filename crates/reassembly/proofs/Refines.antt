@@ -11,7 +11,7 @@ use lib.ListN.{length, getD, set, take}
 use borrow.Author.Tests.{ne-eqb, lt-ltb, le-ltb, ltb-false, lt-leb}
 use Rattle.reassembly.specs.declared.Head.{Head}
 use Rattle.reassembly.specs.declared.Label.{Label}
-use Rattle.reassembly.specs.Store.{Piece, bytesOf, Message, Store, Answer, isHeld, joined, plus, badLength, badNumber, complete, wholeOf, tooShort, refused, answer}
+use Rattle.reassembly.specs.Store.{Piece, bytesOf, Message, Store, Answer, isHeld, joined, plus, badLength, badNumber, repeats, clashes, tooMuch, complete, wholeOf, tooShort, refused, answer}
 use Rattle.reassembly.specs.Record.{headAt, withHead, pieceAt}
 use Rattle.reassembly.specs.Slots.{isFree}
 use Rattle.reassembly.specs.Judge.{misfits, moreOf, grownBy, isWhole, noHead}
@@ -26,6 +26,7 @@ use Rattle.reassembly.proofs.Written.{length-head, length-kept}
 use Rattle.reassembly.proofs.Kept.{complete-is, kept-long, kept-head, kept-fine, table-kept}
 use Rattle.reassembly.proofs.Others.{Others, others-both, others-head, others-kept, stands-with, made-with, freed-slot, freed-free}
 use Rattle.reassembly.proofs.Answers.{number-small, repeats-free, clashes-free, too-much, good-length, plus-is}
+use Rattle.reassembly.proofs.Stores as Stores
 
 -- a refusal changes nothing
 pub refusal : (rec room out : List ℕ) (n : ℕ) → Made rec room → Agrees out (after (bare n) rec room out) (refused n (stands rec room))
@@ -123,32 +124,22 @@ module _ (h : Head) (rec room : List ℕ) (i : ℕ) (f : Fine h rec room i) (rlo
         expires-is : wholeOf (plus m p) .expires ≡ g .expires
         expires-is = unfold wholeOf messageWith in ap (λ (x : Message). x .expires) with-piece
 
+    -- the tests that the piece has passed
+    no-repeat : repeats m p ≡ false
+    no-repeat = repeats-free h rec room i f long hi p gn free
+
+    no-clash : clashes m p ≡ false
+    no-clash = clashes-free h rec room i f long hi p gn free ∙ ok
+
+    few : tooMuch m p ≡ false
+    few = too-much h rec room i f long hi p gn ∙ le-ltb 65535 (h .total + length v) fits
+
     pub answer-kept : isWhole g ≡ false → answer (length out) s p i m ≡ record { number = 0; out = none; store = set s i (some (plus m p)) }
-    unfolding answer
-    answer-kept w =
-        rw (
-          gl,
-          gn,
-          repeats-free h rec room i f long hi p gn free,
-          clashes-free h rec room i f long hi p gn free ∙ ok,
-          lt-leb 16 i hi,
-          too-much h rec room i f long hi p gn ∙ le-ltb 65535 (h .total + length v) fits,
-          whole-is ∙ w,
-        ) refl
+    answer-kept w = Stores.answer-kept (length out) s p i m gl gn no-repeat no-clash hi few (whole-is ∙ w)
 
     answer-whole : isWhole g ≡ true → answer (length out) s p i m
         ≡ cond (tooShort (length out) (plus m p)) (refused 56 s) (record { number = 60; out = some (wholeOf (plus m p)); store = set s i none })
-    unfolding answer
-    answer-whole w =
-        rw (
-          gl,
-          gn,
-          repeats-free h rec room i f long hi p gn free,
-          clashes-free h rec room i f long hi p gn free ∙ ok,
-          lt-leb 16 i hi,
-          too-much h rec room i f long hi p gn ∙ le-ltb 65535 (h .total + length v) fits,
-          whole-is ∙ w,
-        ) refl
+    answer-whole w = Stores.answer-whole (length out) s p i m gl gn no-repeat no-clash hi few (whole-is ∙ w)
 
     short-is : tooShort (length out) (plus m p) ≡ ltb (length out) (length (messageOf rec room i (l .number) v (g .last + 1)))
     unfolding tooShort

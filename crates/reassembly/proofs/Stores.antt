@@ -253,10 +253,15 @@ module _ (cap : ℕ) (s : Store) (p : Piece) (k : ℕ) (m : Message) (gl : badLe
     unfolding answer
     answer-kept e = rw (gl, gn, nr, nc, lt-leb 16 k k16, nm, e) refl
 
-    -- the last missing one brings the message out and frees its place.
-    pub answer-finished : complete (plus m p) ≡ true → tooShort cap (plus m p) ≡ false → answer cap s p k m ≡ record { number = 60; out = some (wholeOf (plus m p)); store = set s k none }
+    -- the last missing one is 56 where the buffer is too short;
+    pub answer-whole : complete (plus m p) ≡ true → answer cap s p k m
+        ≡ cond (tooShort cap (plus m p)) (refused 56 s) (record { number = 60; out = some (wholeOf (plus m p)); store = set s k none })
     unfolding answer
-    answer-finished e f = rw (gl, gn, nr, nc, lt-leb 16 k k16, nm, e, f) refl
+    answer-whole e = rw (gl, gn, nr, nc, lt-leb 16 k k16, nm, e) refl
+
+    -- else it brings the message out and frees its place.
+    pub answer-finished : complete (plus m p) ≡ true → tooShort cap (plus m p) ≡ false → answer cap s p k m ≡ record { number = 60; out = some (wholeOf (plus m p)); store = set s k none }
+    answer-finished e f = answer-whole e ∙ rw f refl
 
 -- ---- a sweep
 
