@@ -1,4 +1,4 @@
--- Case (l) of document 01, and a schedule that keeps the rules of demand 3, found so by computation. Assumes nothing.
+-- A schedule that keeps the rules of demand 3, found so by computation, and what comes of it. Assumes nothing.
 use mathlib.Core.Path.{_≡_, refl, sym, ap, _∙_}
 use mathlib.Core.Bool.{Bool, true, false, not, _&&_, false≢true}
 use mathlib.Core.List.{List, [], _∷_}
