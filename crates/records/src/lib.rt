@@ -5,7 +5,7 @@ ghost use mathlib.Core.Path.{_≡_};
 ghost use Prim.Native.Nat.{_+_, _*_, _<_, _≤_};
 ghost use lib.ListN.{length, replicate};
 ghost use Rattle.wire.specs.Parts.{splice};
-ghost use Rattle.reassembly.specs.Record.{headOf, headBytes, entryOf, headAt, withHead, entryAt, withEntry, cleared};
+ghost use Rattle.reassembly.specs.Record.{headOf, entryOf, headAt, withHead, entryAt, withEntry, cleared};
 
 fn head_of(b: &[u8]) -> Head
     requires { ⌜ length (now b) ≡ 24 ⌝ }
@@ -23,39 +23,6 @@ fn head_of(b: &[u8]) -> Head
     }
 }
 
-fn head_bytes(h: Head) -> [u8; 24]
-    ensures { λ r. ⌜ r ≡ headBytes h ⌝ }
-{
-    let a = (h.opened / 4294967296) as u32;
-    let b = (h.opened % 4294967296) as u32;
-    [
-        (h.id % 256) as u8,
-        (h.id / 256 % 256) as u8,
-        (h.id / 65536 % 256) as u8,
-        (h.id / 16777216) as u8,
-        (b % 256) as u8,
-        (b / 256 % 256) as u8,
-        (b / 65536 % 256) as u8,
-        (b / 16777216) as u8,
-        (a % 256) as u8,
-        (a / 256 % 256) as u8,
-        (a / 65536 % 256) as u8,
-        (a / 16777216) as u8,
-        (h.expires % 256) as u8,
-        (h.expires / 256 % 256) as u8,
-        (h.expires / 65536 % 256) as u8,
-        (h.expires / 16777216) as u8,
-        (h.total % 256) as u8,
-        (h.total / 256) as u8,
-        h.count,
-        h.last,
-        h.top,
-        h.kind,
-        0,
-        0,
-    ]
-}
-
 // The head of slot i.
 pub fn load_head(rec: &[u8], i: usize) -> Head
     requires { ⌜ (8576 ≤ length (now rec)) × (i < 16) ⌝ }
@@ -70,8 +37,13 @@ pub fn save_head(rec: &mut [u8], i: usize, h: Head)
     requires { ⌜ (8576 ≤ length (now rec)) × (i < 16) ⌝ }
     ensures { λ _. ⌜ now (rec .exit) ≡ withHead (now (rec .entry)) i h ⌝ }
 {
-    let v = head_bytes(h);
-    wire::copy_to(rec, i * 24, &v);
+    let at = i * 24;
+    wire_puts::put_u32_le(rec, at, h.id);
+    wire_puts::put_u64_le(rec, at + 4, h.opened);
+    wire_puts::put_u32_le(rec, at + 12, h.expires);
+    wire_puts::put_u16_le(rec, at + 16, h.total);
+    let rest = [h.count, h.last, h.top, h.kind, 0, 0];
+    wire::copy_to(rec, at + 18, &rest);
 }
 
 fn entry_of(b: &[u8]) -> Entry
@@ -98,13 +70,9 @@ pub fn save_entry(rec: &mut [u8], i: usize, k: usize, e: Entry)
     requires { ⌜ (8576 ≤ length (now rec)) × (i < 16) × (k < 128) ⌝ }
     ensures { λ _. ⌜ now (rec .exit) ≡ withEntry (now (rec .entry)) i k e ⌝ }
 {
-    let v = [
-        (e.place % 256) as u8,
-        (e.place / 256) as u8,
-        (e.len % 256) as u8,
-        (e.len / 256) as u8,
-    ];
-    wire::copy_to(rec, 384 + i * 512 + k * 4, &v);
+    let at = 384 + i * 512 + k * 4;
+    wire_puts::put_u16_le(rec, at, e.place);
+    wire_puts::put_u16_le(rec, at + 2, e.len);
 }
 
 // n zeros from a place on; every other byte stays.
