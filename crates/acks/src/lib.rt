@@ -1,4 +1,5 @@
 // Acknowledgements: which packet numbers came, and what to tell the sender. The Rust's `ack.rs`, as types and definitions; crates `tracker`, `reports` and `expand` have the calls.
+
 // The highest number seen, and the marks of the 255 numbers that end there. The Rust's `RemoteAckManager`.
 pub struct Tracker {
     pub highest: u32,
