@@ -1,13 +1,14 @@
 /* Strawhub: SSU2 headers, blocks, acknowledgements and reassembly, proved. Link libstrawhub.a.
  *
  * Every call takes any bytes and any lengths, ends, and allocates nothing. A slice is a pointer and a
- * count; with a count of 0 the pointer may be anything. Slices that a call may write must not overlap
- * another slice of that call. State is bytes that the caller keeps and hands in as the last call left
- * them; all zero is empty.
+ * count; with a count of 0 the pointer may be anything. An array is as long as it is declared. What a
+ * call may write, a slice or an array, must not overlap any other slice or array of that call. State is
+ * bytes that the caller keeps and hands in as the last call left them; all zero is empty.
  *
- * 0 is success. Any other number is a refusal (60 is not: it says that a message is finished), and a
- * refusal changes no byte that was lent. STRAWHUB_* below name them. Parts of an answer that nothing is
- * said of are 0.
+ * 0 is success. Any other number is a refusal, and a refusal changes no byte that was lent. Two numbers
+ * are no refusals: 60, a message is finished, and strawhub_tracker_duplicate's 1, a duplicate. STRAWHUB_*
+ * below name the numbers, docs/REFUSALS.md says what a daemon does at each. Parts of an answer that
+ * nothing is said of are 0. A flag that is handed in is set by any value but 0.
  */
 #ifndef STRAWHUB_H
 #define STRAWHUB_H
@@ -96,15 +97,16 @@ void strawhub_keystream(const uint8_t key[32], uint32_t counter, const uint8_t n
 
 /* Unmasks a packet's header in place and reads it; bytes past the header stay. Fields go to out, what a
  * type does not have as 0: type, version, network id, fragment, count, immediate-ack flag, packet
- * number, destination id, source id, token, place of the 32-byte key in the packet. 0, or 20 to 24,
- * and then packet and out are as they came. */
+ * number, destination id, source id, token, place of the 32-byte key in the packet. Ids and token are
+ * read low byte first. 0, or 20 to 24, and then packet and out are as they came. */
 uint32_t strawhub_header_read(uint8_t *packet, size_t packet_len, const uint8_t key1[32], const uint8_t key2[32],
                               uint64_t out[11]);
 
 /* Writes and masks a header at the start of a packet whose other bytes, the key of types 0 and 1
  * among them, stand there already; the masks' nonces are its last 24 bytes. Fields that a type does
- * not have are not looked at. Any immediate but 0 sets the flag. 0, or 21, 22, 24, 25, 20, and then
- * the packet is as it came. */
+ * not have are not looked at. Ids and token are written low byte first: a token that came in a NewToken
+ * block, which has its high byte first, has its 8 bytes swapped before it is handed in. 0, or 21, 22,
+ * 24, 25, 20, and then the packet is as it came. */
 uint32_t strawhub_header_write(uint8_t *packet, size_t packet_len, const uint8_t key1[32], const uint8_t key2[32],
                                uint8_t kind, uint64_t destination, uint32_t number, uint8_t version, uint8_t network,
                                uint64_t source, uint64_t token, uint8_t fragment, uint8_t count, uint8_t immediate);
@@ -116,12 +118,15 @@ uint32_t strawhub_header_write(uint8_t *packet, size_t packet_len, const uint8_t
  *   2 RouterInfo flag frag; 3 I2NP and 4 FirstFragment type id expiration;
  *   5 FollowOnFragment number last id; 6 Termination count reason; 12 Ack through count;
  *   13 Address port; 16 RelayTag tag; 17 NewToken expires token; 20 FirstPacketNumber number;
- *   21 Congestion flag; no fields in 15, 18, 19, 254 and every other type. */
+ *   21 Congestion flag; no fields in 15, 18, 19, 254 and every other type.
+ * All numbers of a block stand high byte first, NewToken's token too (a header's stands low byte first).
+ * last is 0 or 1. */
 struct strawhub_outcome strawhub_block_read(const uint8_t *payload, size_t payload_len, size_t at, uint64_t out[12]);
 
 /* Writes a block to the start of a room, fields as strawhub_block_read gives them, bytes as the bytes
  * after the fields (not looked at where a type has none): 0 and its length, the rest of the room stays;
- * or 32, 31, 30 in that order. A field that is too wide for its place in the block is a 32. */
+ * or 32, 31, 30 in that order. A field that is too wide for its place in the block is a 32; last is a
+ * flag. */
 struct strawhub_outcome strawhub_block_write(uint8_t *room, size_t room_len, uint8_t kind, const uint64_t fields[8],
                                              const uint8_t *bytes, size_t bytes_len);
 
@@ -133,7 +138,9 @@ struct strawhub_outcome strawhub_block_list(const uint8_t *payload, size_t paylo
 /* A tracker that has seen nothing, in the first 259 bytes. 0, or 59 where there are fewer. */
 uint32_t strawhub_tracker_new(uint8_t *tracker, size_t tracker_len);
 
-/* A packet number came: 0, or 40, 42, 43, 59. */
+/* A packet number came: 0, or 40, 42, 43, 59. Register a packet only after its payload was
+ * authenticated: a forged packet that takes the number makes the true one a 43, and since the number is
+ * then acknowledged, it is never sent again. */
 uint32_t strawhub_tracker_register(uint8_t *tracker, size_t tracker_len, uint32_t number);
 
 /* Whether a number is in the window and was received: 1 yes, 0 no, or 59. */
@@ -162,7 +169,7 @@ struct strawhub_reply strawhub_store_first(uint8_t *record, size_t record_len, u
                                            uint8_t *out, size_t out_len, uint32_t id, uint8_t kind, uint32_t expires,
                                            uint64_t second, const uint8_t *bytes, size_t bytes_len);
 
-/* A follow-on piece came, in the same way; 51 too. Any last but 0 marks the last piece. */
+/* A follow-on piece came, in the same way; 51 too. last is a flag. */
 struct strawhub_reply strawhub_store_follow_on(uint8_t *record, size_t record_len, uint8_t *room, size_t room_len,
                                                uint8_t *out, size_t out_len, uint32_t id, uint8_t number, uint8_t last,
                                                uint64_t second, const uint8_t *bytes, size_t bytes_len);

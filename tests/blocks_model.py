@@ -121,8 +121,8 @@ def shown(payload, at):
 
 
 def joined(found):
-    """A follow-on fragment's fields as they are written; None for a number above 127 or a flag that is no bit."""
-    return None if found[0] > 127 or found[1] > 1 else [found[0] * 2 + found[1], found[2]]
+    """A follow-on fragment's fields as they are written, any flag but 0 set; None for a number above 127."""
+    return None if found[0] > 127 else [found[0] * 2 + (found[1] != 0), found[2]]
 
 
 def faulty(kind, found, data):

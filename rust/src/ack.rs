@@ -39,8 +39,11 @@ impl RemoteAckManager {
         RemoteAckManager { tracker: [0; TRACKER] }
     }
 
-    /// A packet came. The first one that is taken counts number 0, the SessionConfirmed, as received
-    /// too.
+    /// A packet came, and its payload was authenticated. The first one that is taken counts number 0,
+    /// the SessionConfirmed, as received too.
+    ///
+    /// Not before it was authenticated: a forged packet would take the number, and the true one would be
+    /// refused with 43. It would never be sent again, since its number is acknowledged.
     ///
     /// Refuses a number that is more than 255 above the highest (40), below the window (42) or
     /// received already (43).

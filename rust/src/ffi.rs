@@ -1,8 +1,10 @@
-//! The calls as include/strawhub.h declares them, and a safe function over each.
+//! The calls as include/strawhub.h declares them, and a safe function over each. `strawhub_tracker_new`
+//! is not among them: 259 zeros are a new tracker.
 //!
-//! This is the only module with unsafe code. Each function hands the library a pointer and the count
-//! of a slice that is borrowed for the call, mutably where the library may write; the library reads and
-//! writes inside those slices alone, keeps no pointer and always returns.
+//! This is the only module with unsafe code. Each function hands the library slices, as a pointer and a
+//! count, and arrays of the declared length, as a pointer. They are borrowed for the call, mutably where
+//! the library may write; the library reads and writes inside them alone, keeps no pointer and always
+//! returns.
 
 /// One block of a listing.
 #[derive(Debug, Clone, Copy, PartialEq, Eq, Hash, Default)]

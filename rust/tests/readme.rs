@@ -5,7 +5,7 @@ mod common;
 use strawhub::STORAGE;
 
 // README
-use strawhub::{blocks, FragmentStorage, HeaderKind, HeaderReader, Message, Refusal, RefusedAt, RemoteAckManager};
+use strawhub::{blocks, FragmentStorage, HeaderKind, HeaderReader, Message, Refusal, RemoteAckManager};
 
 struct Session {
     k_header_1: [u8; 32],
@@ -15,20 +15,23 @@ struct Session {
 }
 
 impl Session {
-    /// A packet came: whether it asks for an immediate ACK. Refused, it is as it came, for another session to try.
-    fn header(&mut self, packet: &mut [u8]) -> Result<bool, Refusal> {
-        let header = HeaderReader::new(self.k_header_1, packet)?.parse(self.k_header_2)?;
-        let HeaderKind::Data { pkt_num, immediate_ack, .. } = header else { return Ok(false) };
-        self.acks.register_pkt(pkt_num)?;
-        Ok(immediate_ack)
+    /// A packet came. Refused, it is as it came, for another session to try.
+    fn header(&self, packet: &mut [u8]) -> Result<HeaderKind, Refusal> {
+        HeaderReader::new(self.k_header_1, packet)?.parse(self.k_header_2)
     }
 
-    /// Its payload, decrypted: every message in it, whole or rebuilt.
-    fn payload(&mut self, payload: &[u8], second: u64, mut arrived: impl FnMut(Message<'_>)) -> Result<(), RefusedAt> {
+    /// A Data packet's payload, authenticated and decrypted: its number is registered, and every message in it, whole
+    /// or rebuilt, has arrived. Registered any earlier, a forged packet could take the true one's number.
+    fn data<F>(&mut self, pkt_num: u32, payload: &[u8], now: u64, mut arrived: F) -> Result<(), Refusal>
+    where
+        F: FnMut(Message<'_>),
+    {
+        self.acks.register_pkt(pkt_num)?; // 42, 43: late or a repeat, and not read
         let mut handler = self.storage.handler();
+        handler.sweep(now); // messages that were opened 30 seconds ago make room
         for block in blocks(payload) {
-            let (place, _) = block?;
-            match handler.deliver(payload, place, second) {
+            let (place, _) = block.map_err(|refused| refused.refusal)?;
+            match handler.deliver(payload, place, now) {
                 Ok(delivered) => delivered.message().into_iter().for_each(&mut arrived),
                 Err(refused) => eprintln!("{}: {refused}", refused.number()), // a repeat, say; the rest is still read
             }
@@ -53,16 +56,41 @@ fn a_session_receives_a_letter_once() {
         storage: FragmentStorage::over(vec![0; STORAGE]).unwrap(),
     };
     let mut packet = common::packet(HeaderKind::Data { dst_id: 1, pkt_num: 5, immediate_ack: true }, 60);
-    let came = packet.clone();
-    assert_eq!(session.header(&mut packet), Ok(true));
-    assert_eq!(session.header(&mut came.clone()), Err(Refusal::NumberAgain));
-    assert_eq!(session.acks.ack_info().unwrap().highest_seen, 5);
+    let Ok(HeaderKind::Data { pkt_num, immediate_ack: true, .. }) = session.header(&mut packet) else {
+        panic!("the header is the one that was written")
+    };
 
     // pieces 1 (the last), 1 again, 0
     let last = b"\x05\x00\x07\x03\x00\x00\x00\x07cd";
     let payload = [&last[..], &last[..], b"\x04\x00\x0b\x14\x00\x00\x00\x07\x00\x00\x00\x09ab"].concat();
     let mut letters = Vec::new();
-    session.payload(&payload, common::NOW, |message| letters.push(message.payload.to_vec())).unwrap();
+    session.data(pkt_num, &payload, common::NOW, |message| letters.push(message.payload.to_vec())).unwrap();
     assert_eq!(letters, [b"abcd"]);
-    assert_eq!(session.payload(&payload[..9], common::NOW, |_| ()).unwrap_err().number(), 7);
+    assert_eq!(session.acks.ack_info().unwrap().highest_seen, 5);
+
+    // the same packet again is not read again; a payload that ends inside a block is refused there
+    let again = session.data(pkt_num, &payload, common::NOW, |_| panic!("a message arrived twice"));
+    assert_eq!(again, Err(Refusal::NumberAgain));
+    assert_eq!(session.data(6, &payload[..9], common::NOW, |_| ()), Err(Refusal::FollowOnBytes));
+}
+
+#[test]
+fn a_forged_packet_takes_no_number() {
+    let mut session = Session {
+        k_header_1: common::K1,
+        k_header_2: common::K2,
+        acks: RemoteAckManager::new(),
+        storage: FragmentStorage::over(vec![0; STORAGE]).unwrap(),
+    };
+    let header = HeaderKind::Data { dst_id: 1, pkt_num: 5, immediate_ack: false };
+
+    // a forged packet with a readable header: its payload is not authenticated, so nothing is registered
+    let mut forged = common::packet(header, 60);
+    assert_eq!(session.header(&mut forged), Ok(header));
+    assert_eq!(session.acks.ack_info(), Err(Refusal::NothingSeen));
+
+    // the true one comes later
+    let mut packet = common::packet(header, 80);
+    assert_eq!(session.header(&mut packet).map(|header| header.pkt_num()), Ok(5));
+    assert_eq!(session.data(5, b"\x00\x00\x04\x65\x53\xf1\x00", common::NOW, |_| ()), Ok(()));
 }

@@ -175,7 +175,7 @@ static int refuses_room(uint64_t refusal, size_t room_len, uint8_t kind, uint64_
 
 static void block_write(void)
 {
-	static const uint64_t ack[8] = {10, 2}, time[8] = {7};
+	static const uint64_t ack[8] = {10, 2}, time[8] = {7}, marked[8] = {1, 256, 7};
 	static const uint8_t pairs[2] = {1, 3}, block[10] = {12, 0, 7, 0, 0, 0, 10, 2, 1, 3};
 	uint8_t room[16];
 	memset(room, 0x5a, sizeof room);
@@ -184,6 +184,8 @@ static void block_write(void)
 	CHECK(all(room + 10, 6, 0x5a));
 	CHECK(is(strawhub_block_write(room, 7, 0, time, pairs, 2), 0, 7));
 	CHECK(room[2] == 4 && room[6] == 7);
+	CHECK(is(strawhub_block_write(room, sizeof room, 5, marked, pairs, 2), 0, 10));
+	CHECK(room[3] == 3); /* number 1, and any last but 0 is set */
 	CHECK(refuses_room(32, 65600, 2, 0, 0));
 	CHECK(refuses_room(32, 65600, 0, (uint64_t)1 << 32, 0));
 	CHECK(refuses_room(32, 65600, 5, 128, 1));

@@ -188,7 +188,7 @@ def some_fields(rng, kind):
     if kind in (3, 4) and rng.random() < 0.8:
         fields[0] = rng.choice(sorted(model.LISTED))
     if kind == 5:
-        fields = [rng.choice((0, 1, 126, 127, 127, 128, 255, 1 << 32)), rng.choice((0, 1, 0, 1, 0, 1, 2, 255, 256)), fields[1]]
+        fields = [rng.choice((0, 1, 126, 127, 127, 128, 255, 1 << 32)), rng.choice((0, 1, 0, 1, 0, 1, 2, 255, 256, (1 << 64) - 1)), fields[1]]
     return (fields + [rng.choice((0, 0, rng.getrandbits(64))) for _ in range(8)])[:8]
 
 

@@ -1,6 +1,6 @@
 // A block made of numbers, and written.
 ghost use mathlib.Core.Path.{_≡_};
-ghost use mathlib.Core.Bool.{true};
+ghost use mathlib.Core.Bool.{true, not};
 ghost use Prim.Native.Nat.{_≤_};
 ghost use lib.Dec.{eqb};
 ghost use lib.ListN.{length, getD};
@@ -40,7 +40,7 @@ fn fit(kind: u8, f: &[u64; 8]) -> bool
         2 => (f[0] <= 255) & (f[1] <= 255),
         3 => message_fits(f),
         4 => message_fits(f),
-        5 => (f[0] <= 255) & (f[1] <= 1) & (f[2] <= WORD),
+        5 => (f[0] <= 255) & (f[2] <= WORD),
         6 => f[1] <= 255,
         12 => (f[0] <= WORD) & (f[1] <= 255),
         13 => f[0] <= 65535,
@@ -105,11 +105,11 @@ fn first_fragment_by(f: &[u64; 8]) -> Block
 
 fn follow_on_by(f: &[u64; 8]) -> Block
     requires { ⌜ (getD (now f) 0 0 ≤ 255) × (getD (now f) 2 0 ≤ 4294967295) ⌝ }
-    ensures { λ r. ⌜ r ≡ Block.FollowOnFragment (getD (now (f .entry)) 0 0) (eqb (getD (now (f .entry)) 1 0) 1) (getD (now (f .entry)) 2 0) lent ⌝ }
+    ensures { λ r. ⌜ r ≡ Block.FollowOnFragment (getD (now (f .entry)) 0 0) (not (eqb (getD (now (f .entry)) 1 0) 0)) (getD (now (f .entry)) 2 0) lent ⌝ }
 {
     Block::FollowOnFragment {
         number: f[0] as u8,
-        last: f[1] == 1,
+        last: f[1] != 0,
         id: f[2] as u32,
         bytes: Part { start: 0, len: 0 },
     }

@@ -1,5 +1,5 @@
 -- A block that is made of numbers: the fields in 01's order, each within its place in the block.
-use mathlib.Core.Bool.{Bool, true, cond, _&&_}
+use mathlib.Core.Bool.{Bool, true, cond, not, _&&_}
 use mathlib.Core.List.{List}
 use Prim.Native.Nat.{ℕ}
 use lib.Dec.{eqb, leb}
@@ -24,7 +24,7 @@ optionsFit f =
 abbrev pub messageFits : List ℕ → Bool
 messageFits f = (upTo f 0 255 && upTo f 1 4294967295) && upTo f 2 4294967295
 
--- whether each field fits its place, by type; what a type does not have is not looked at
+-- whether each field fits its place, by type; what a type does not have is not looked at, and of a flag only whether it is 0
 unfoldable pub fits : ℕ → List ℕ → Bool
 fits kind f =
     cond (eqb kind 0) (upTo f 0 4294967295)
@@ -32,7 +32,7 @@ fits kind f =
     (cond (eqb kind 2) (upTo f 0 255 && upTo f 1 255)
     (cond (eqb kind 3) (messageFits f)
     (cond (eqb kind 4) (messageFits f)
-    (cond (eqb kind 5) ((upTo f 0 255 && upTo f 1 1) && upTo f 2 4294967295)
+    (cond (eqb kind 5) (upTo f 0 255 && upTo f 2 4294967295)
     (cond (eqb kind 6) (upTo f 1 255)
     (cond (eqb kind 12) (upTo f 0 4294967295 && upTo f 1 255)
     (cond (eqb kind 13) (upTo f 0 65535)
@@ -53,7 +53,7 @@ blockBy kind f =
     (cond (eqb kind 2) (Body.RouterInfo (getD f 0 0) (getD f 1 0) lent)
     (cond (eqb kind 3) (Body.I2np (getD f 0 0) (getD f 1 0) (getD f 2 0) lent)
     (cond (eqb kind 4) (Body.FirstFragment (getD f 0 0) (getD f 1 0) (getD f 2 0) lent)
-    (cond (eqb kind 5) (Body.FollowOnFragment (getD f 0 0) (eqb (getD f 1 0) 1) (getD f 2 0) lent)
+    (cond (eqb kind 5) (Body.FollowOnFragment (getD f 0 0) (not (eqb (getD f 1 0) 0)) (getD f 2 0) lent)
     (cond (eqb kind 6) (Body.Termination (getD f 0 0) (getD f 1 0))
     (cond (eqb kind 12) (Body.Ack (getD f 0 0) (getD f 1 0) lent)
     (cond (eqb kind 13) (Body.Address (getD f 0 0) lent)

@@ -34,7 +34,7 @@ first-fragment-by-requires c κs = three-fit (getD (c .before .args .f .now) 0 0
 
 follow-on-by-requires : tie.Need-follow-on-by-requires
 unfolding fits
-follow-on-by-requires c κs = let h = three-fit (getD (c .before .args .f .now) 0 0) 255 (getD (c .before .args .f .now) 1 0) 1 (getD (c .before .args .f .now) 2 0) 4294967295 (subst (λ (k : ℕ). fits k (c .before .args .f .now) ≡ true) (c .match .keys6) (c .before .pre)) in (h .0, h .2)
+follow-on-by-requires c κs = two-fit (getD (c .before .args .f .now) 0 0) 255 (getD (c .before .args .f .now) 2 0) 4294967295 (subst (λ (k : ℕ). fits k (c .before .args .f .now) ≡ true) (c .match .keys6) (c .before .pre))
 
 element-copy-out-t11 : tie.Need-element-copy-out-t11
 element-copy-out-t11 c = search needs

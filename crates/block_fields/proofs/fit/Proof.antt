@@ -54,9 +54,6 @@ element-copy-out-result-12 c = search needs
 element-copy-out-result-13 : tie.Need-element-copy-out-result-13
 element-copy-out-result-13 c = search needs
 
-element-copy-out-result-14 : tie.Need-element-copy-out-result-14
-element-copy-out-result-14 c = search needs
-
 returns : tie.Need-returns
 unfolding fits
 returns c = sym (ap (λ (k : ℕ). fits k (c .before .before .args .f .now)) (c .before .match .keys1))
@@ -79,7 +76,7 @@ returns-5 c = c .message-fits2 .ensures ∙ sym (ap (λ (k : ℕ). fits k (c .be
 
 returns-6 : tie.Need-returns-6
 unfolding fits
-returns-6 c = sym (ap (λ (k : ℕ). fits k (c .before .before .before .before .args .f .now)) (c .before .before .before .match .keys6))
+returns-6 c = sym (ap (λ (k : ℕ). fits k (c .before .before .before .args .f .now)) (c .before .before .match .keys6))
 
 returns-7 : tie.Need-returns-7
 unfolding fits
@@ -133,7 +130,6 @@ fit-spec =
     element-copy-out-result-11
     element-copy-out-result-12
     element-copy-out-result-13
-    element-copy-out-result-14
     returns
     returns-2
     returns-3
