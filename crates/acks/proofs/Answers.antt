@@ -15,6 +15,11 @@ pub odd-byte : expandAnswer 6 2 (1 ∷ 3 ∷ 7 ∷ []) 7 ≡ 0
 unfolding expandAnswer numbers named flags whole total
 odd-byte = refl
 
+-- where both hold, 44 is given: one number below 0, and no room for any
+pub reach-first : expandAnswer 0 1 [] 0 ≡ 44
+unfolding expandAnswer numbers named flags whole total
+reach-first = refl
+
 module _ (through count : ℕ) (ps : List ℕ) where
   pub says-44 : (room : ℕ) → through < count + total (whole ps) → expandAnswer through count ps room ≡ 44
   unfolding expandAnswer

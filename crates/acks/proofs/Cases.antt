@@ -1,5 +1,6 @@
 -- The marked cases that speak of acknowledgements, and the longest report, computed. Assumes nothing.
 use mathlib.Core.Path.{_≡_, refl}
+use mathlib.Core.Bool.{true}
 use mathlib.Core.List.{[], _∷_}
 use Rattle.acks.specs.Window.{falling, inWindow}
 use Rattle.acks.specs.History.{answerTo}
@@ -27,6 +28,11 @@ case-i = refl
 pub case-j : registerOf fresh 256 .answer ≡ 40
 unfolding registerOf answerOf answerTo fresh
 case-j = refl
+
+-- where both hold, 42 is given: 45 was received, and the window that ends at 300 begins at 46
+pub late-first : answerTo 300 (λ k. true) 45 ≡ 42
+unfolding answerTo
+late-first = refl
 
 -- (k)
 pub case-k : ackInfo (registerAll fresh (255 ∷ [])) ≡ shown 255 (0 ∷ 254 ∷ 0 ∷ [])
