@@ -53,7 +53,6 @@ numbers-shown f e = numbers-of (shown f) ∙ ap numbersOf (fields-shown f e)
 pub passable-fits : (n : List ℕ) → Passable n → Fits (fieldsFrom n)
 passable-fits n p = record { destination = p .destination; number = p .number; source = p .source; token = p .token }
 
--- and a header's numbers can be passed where its fields are
 flag-passable : (f : Fields) → cond (f .immediate) 1 0 < 2 ^ 8
 flag-passable f = go (f .immediate)
   where
@@ -61,6 +60,7 @@ flag-passable f = go (f .immediate)
     go true = omega arith
     go false = omega arith
 
+-- and the numbers of a header whose fields are within theirs can be passed
 pub kind-passable : (k : HeaderKind) → Fits (fieldsOf k) → Narrow (fieldsOf k) → Passable (kindNumbers k)
 kind-passable k w b =
     rw (numbers-of k)
