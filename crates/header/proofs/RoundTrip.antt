@@ -24,7 +24,7 @@ use Rattle.header.specs.Kinds.{isKeyed, isShort, isListed, isVersion, lo
 use Rattle.header.specs.Unmasking.{stream, nonce1, nonce2, front, rest, typeOf, unmasked}
 use Rattle.header.specs.Reading.{refusalOf, readNumber, longAt, longKind, kindOf, answerOf, leftBy}
 use Rattle.header.specs.Writing.{writeNumber, byte13, byte14, frontBytes, idBytes, headBytes, plain, written}
-use Rattle.header.specs.RoundTrip.{Fits, shown, ofLong, fieldsOf, NoOthers, WrittenIsRead, ReadIsWritten}
+use Rattle.header.specs.RoundTrip.{Fits, own, shown, ofLong, fieldsOf, NoOthers, WrittenIsRead, ReadIsWritten}
 use Rattle.header.proofs.Fronts.{length-front, front-twice, length-rest, rest-twice, part-rest}
 use Rattle.header.proofs.Refusals.{refusal-front, Taken, read-taken, read-room, Given, write-given, need-enough, need-keyed}
 use Rattle.header.proofs.Plain.{length-frontBytes, length-idBytes}
@@ -275,8 +275,8 @@ record Same (f : Fields) (u : List ℕ) : Type 0 where
   nibbles : (eqb (f .kind) 2 && (ltb 15 (f .fragment) || ltb 15 (f .count))) ≡ false
 
 -- a listed type that is not a short one keeps its number
-long-fields : (t : ℕ) (l : Long) → isListed t ≡ true → eqb t 2 ≡ false → eqb t 6 ≡ false → fieldsOf (longKind t l) ≡ ofLong t l
-unfolding isListed longKind fieldsOf
+pub long-fields : (t : ℕ) (l : Long) → isListed t ≡ true → eqb t 2 ≡ false → eqb t 6 ≡ false → fieldsOf (longKind t l) ≡ ofLong t l
+unfolding isListed longKind
 long-fields t l e e2 e6 = go (eqb t 0) (eqb t 1) (eqb t 7) (eqb t 9) (eqb t 10) refl refl refl refl refl
   where
     go : (a b c d g : Bool) → eqb t 0 ≡ a → eqb t 1 ≡ b → eqb t 7 ≡ c → eqb t 9 ≡ d → eqb t 10 ≡ g → fieldsOf (longKind t l) ≡ ofLong t l
@@ -288,6 +288,16 @@ long-fields t l e e2 e6 = go (eqb t 0) (eqb t 1) (eqb t 7) (eqb t 9) (eqb t 10) 
     go false false false false false ea eb ec ed eg =
         let last : eqb t 11 ≡ true = rw (ea, eb, e2, e6, ec, ed, eg) at e in
         rw (eqb-true t 11 last)
+
+-- what fields stand for has the fields of its type
+pub fields-shown : (f : Fields) → isListed (f .kind) ≡ true → fieldsOf (shown f) ≡ own f
+unfolding shown own
+fields-shown f listed = go (eqb (f .kind) 2) (eqb (f .kind) 6) refl refl
+  where
+    go : (a b : Bool) → eqb (f .kind) 2 ≡ a → eqb (f .kind) 6 ≡ b → fieldsOf (shown f) ≡ own f
+    go true b ea eb = rw (eqb-true (f .kind) 2 ea)
+    go false true ea eb = rw (eqb-true (f .kind) 6 eb)
+    go false false ea eb = rw (ea, eb) (long-fields (f .kind) _ listed ea eb)
 
 -- the short types by the tests of the others
 short-2 : (t : ℕ) → eqb t 2 ≡ true → isShort t ≡ true
@@ -306,7 +316,7 @@ bit (suc (suc b)) h = absurd (omega arith)
 
 module _ (u : List ℕ) (bytes : Bytes u) (others : NoOthers u) where
   same-confirmed : eqb (typeOf u) 2 ≡ true → Same (fieldsOf (SessionConfirmed (littleAt 8 u 0) (bigAt 4 u 8) (getD u 13 0 / 16) (getD u 13 0 % 16))) u
-  unfolding fieldsOf byte13 byte14
+  unfolding byte13 byte14
   same-confirmed e =
       let s = short-2 (typeOf u) e in
       let b : getD u 13 0 < 256 = bytes 13 in
@@ -323,7 +333,7 @@ module _ (u : List ℕ) (bytes : Bytes u) (others : NoOthers u) where
       }
 
   same-data : eqb (typeOf u) 2 ≡ false → eqb (typeOf u) 6 ≡ true → Same (fieldsOf (Data (littleAt 8 u 0) (bigAt 4 u 8) (eqb (getD u 13 0 % 2) 1))) u
-  unfolding fieldsOf byte13 byte14
+  unfolding byte13 byte14
   same-data e g =
       let s = short-6 (typeOf u) e g in
       let t = eqb-true (typeOf u) 6 g in
@@ -407,18 +417,27 @@ module _ (u : List ℕ) (f : Fields) (h : 32 ≤ length u) (bytes : Bytes u) (ot
       version-again : (not (isShort (typeOf u)) && not (isVersion (f .version))) ≡ false
       version-again = go (isShort (typeOf u)) refl
 
-bytes-unmasked : (k1 k2 p : List ℕ) → Bytes p → Bytes (unmasked k1 k2 p)
-unfolding unmasked rest front stream
-bytes-unmasked k1 k2 p b =
+bytes-front : (k1 k2 p : List ℕ) → Bytes p → Bytes (front k1 k2 p)
+unfolding front stream
+bytes-front k1 k2 p b =
     let n1 = nonce1 p in
     let n2 = nonce2 p in
-    let half = masked p 0 8 (block k1 1 n1) in
-    bytes-masked (masked half 8 8 (block k2 1 n2)) (block k2 1 (replicate 12 0)) 16 _
-    (bytes-masked half (block k2 1 n2) 8 8 (bytes-masked p (block k1 1 n1) 0 8 b (bytes-block k1 1 n1)) (bytes-block k2 1 n2))
-    (bytes-block k2 1 (replicate 12 0))
+    bytes-masked (masked p 0 8 (block k1 1 n1)) (block k2 1 n2) 8 8 (bytes-masked p (block k1 1 n1) 0 8 b (bytes-block k1 1 n1)) (bytes-block k2 1 n2)
+
+bytes-rest : (k2 : List ℕ) (t : ℕ) (p : List ℕ) → Bytes p → Bytes (rest k2 t p)
+unfolding rest stream
+bytes-rest k2 t p b = bytes-masked p (block k2 1 (replicate 12 0)) 16 (longOf t) b (bytes-block k2 1 (replicate 12 0))
+
+pub bytes-unmasked : (k1 k2 p : List ℕ) → Bytes p → Bytes (unmasked k1 k2 p)
+unfolding unmasked
+bytes-unmasked k1 k2 p b = bytes-rest k2 (typeOf (front k1 k2 p)) (front k1 k2 p) (bytes-front k1 k2 p b)
+
+pub bytes-written : (k1 k2 : List ℕ) (f : Fields) (p : List ℕ) → Bytes (plain f p) → Bytes (written k1 k2 f p)
+unfolding written
+bytes-written k1 k2 f p b = bytes-front k1 k2 (rest k2 (f .kind) (plain f p)) (bytes-rest k2 (f .kind) (plain f p) b)
 
 -- a packet that was read
-read-passed : (k1 k2 p : List ℕ) → readNumber k1 k2 p ≡ 0 → (40 ≤ length p) × (refusalOf (front k1 k2 p) (length p) ≡ 0)
+pub read-passed : (k1 k2 p : List ℕ) → readNumber k1 k2 p ≡ 0 → (40 ≤ length p) × (refusalOf (front k1 k2 p) (length p) ≡ 0)
 unfolding readNumber
 read-passed k1 k2 p e = go (ltb (length p) 40) refl e
   where
@@ -430,7 +449,7 @@ module _ (k1 k2 p : List ℕ) (h : 40 ≤ length p) (z : refusalOf (front k1 k2 
   room : 16 + longOf (typeOf (front k1 k2 p)) ≤ length (front k1 k2 p)
   room = rw (length-front k1 k2 p h) (read-room (front k1 k2 p) (length p) h z)
 
-  length-unmasked : length (unmasked k1 k2 p) ≡ length p
+  pub length-unmasked : length (unmasked k1 k2 p) ≡ length p
   unfolding unmasked
   length-unmasked = length-rest k2 (typeOf (front k1 k2 p)) (front k1 k2 p) room ∙ length-front k1 k2 p h
 
@@ -438,7 +457,7 @@ module _ (k1 k2 p : List ℕ) (h : 40 ≤ length p) (z : refusalOf (front k1 k2 
   unfolding unmasked
   type-unmasked = type-rest k2 (typeOf (front k1 k2 p)) (front k1 k2 p) room
 
-  taken-unmasked : Taken (unmasked k1 k2 p) (length p)
+  pub taken-unmasked : Taken (unmasked k1 k2 p) (length p)
   unfolding unmasked
   taken-unmasked =
       read-taken (unmasked k1 k2 p) (length p) (front-rest k2 (typeOf (front k1 k2 p)) (front k1 k2 p) room (length p) ∙ z)

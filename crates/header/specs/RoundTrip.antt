@@ -1,6 +1,6 @@
 -- Reading what was written, and writing what was read.
 use mathlib.Core.Path.{_≡_}
-use mathlib.Core.Bool.{true, false, cond}
+use mathlib.Core.Bool.{true, false, cond, _&&_}
 use mathlib.Core.List.{List}
 use Prim.Native.Nat.{ℕ, _≤_, _<_, _^_}
 use lib.Dec.{eqb}
@@ -22,6 +22,30 @@ pub record Fits (f : Fields) : Type 0 where
   pub number : f .number < 2 ^ 32
   pub source : f .source < 2 ^ 64
   pub token : f .token < 2 ^ 64
+
+-- the fields of a byte within it, as every call has them
+pub record Narrow (f : Fields) : Type 0 where
+  pub kind : f .kind < 2 ^ 8
+  pub version : f .version < 2 ^ 8
+  pub network : f .network < 2 ^ 8
+  pub fragment : f .fragment < 2 ^ 8
+  pub count : f .count < 2 ^ 8
+
+-- the fields that the type has; the others are 0
+unfoldable pub own : Fields → Fields
+own f =
+    record {
+      kind = f .kind;
+      destination = f .destination;
+      number = f .number;
+      version = cond (isShort (f .kind)) 0 (f .version);
+      network = cond (isShort (f .kind)) 0 (f .network);
+      source = cond (isShort (f .kind)) 0 (f .source);
+      token = cond (isShort (f .kind)) 0 (f .token);
+      fragment = cond (eqb (f .kind) 2) (f .fragment) 0;
+      count = cond (eqb (f .kind) 2) (f .count) 0;
+      immediate = eqb (f .kind) 6 && f .immediate;
+    }
 
 -- the header that fields stand for
 unfoldable pub shown : Fields → HeaderKind
@@ -48,7 +72,7 @@ ofLong t l =
     }
 
 -- the fields of a header that was read
-unfoldable pub fieldsOf : HeaderKind → Fields
+abbrev pub fieldsOf : HeaderKind → Fields
 fieldsOf (SessionRequest l) = ofLong 0 l
 fieldsOf (SessionCreated l) = ofLong 1 l
 fieldsOf (SessionConfirmed d n i k) =

@@ -1,3 +1,4 @@
 -- The laws.
+pub mod HeaderLaws
 pub mod BlockLaws
 pub mod Refused

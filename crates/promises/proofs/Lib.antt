@@ -1,6 +1,8 @@
 -- The demands, proved.
 pub mod Acks
 pub mod Twelve
+pub mod HeaderNumbers
+pub mod HeaderNumbersExample
 pub mod Demand1
 pub mod Demand1Calls
 pub mod Demand1Example

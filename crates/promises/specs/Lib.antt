@@ -1,6 +1,7 @@
 -- The demands of the request, each a statement over the definitions of the crates below.
 pub mod Acks
 pub mod Twelve
+pub mod HeaderNumbers
 pub mod Demand1
 pub mod Demand1Calls
 pub mod Demand2

@@ -68,6 +68,11 @@ pub big-lt : (l : List ℕ) → Bytes l → big l < 256 ^ length l
 unfolding big
 big-lt l h = subst (λ (n : ℕ). little (reverse l) < 256 ^ n) (length-reverse l) (little-lt (reverse l) (bytes-reverse l h))
 
+pub littleAt-lt : (n : ℕ) (l : List ℕ) (o : ℕ) → o + n ≤ length l → Bytes l → littleAt n l o < 256 ^ n
+unfolding littleAt
+littleAt-lt n l o h b =
+    subst (λ (k : ℕ). little (part l o n) < 256 ^ k) (length-part l o n h) (little-lt (part l o n) (bytes-part l o n b))
+
 pub bigAt-lt : (n : ℕ) (l : List ℕ) (o : ℕ) → o + n ≤ length l → Bytes l → bigAt n l o < 256 ^ n
 unfolding bigAt
 bigAt-lt n l o h b =
