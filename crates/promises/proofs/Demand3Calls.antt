@@ -4,7 +4,7 @@ use mathlib.Core.List.{List, [], _∷_, map}
 use Prim.Native.Nat.{ℕ, zero, suc, _<_}
 use lib.Dec.{eqb}
 use lib.ListN.{length, getD}
-use Rattle.reassembly.specs.Store.{Piece, first, follow, Store, empty, step}
+use Rattle.reassembly.specs.Store.{Piece, first, follow, Store, step}
 use Rattle.reassembly.specs.Calls.{renewed}
 use Rattle.reassembly.specs.Stands.{stands, Made, Agrees, laidOut}
 use Rattle.reassembly.proofs.Steps.{Fits, first-agrees, follow-agrees}
@@ -78,7 +78,7 @@ starts =
     }
 
 pub demand3-again : Demand3Again
-demand3-again cap hc outs outs′ long rec room cs es o ds within fs narrow q = demand3-calls cap hc outs′ long _ _ (o .made) (o .ends-empty) ds within fs narrow q
+demand3-again cap outs outs′ hc long rec room cs es o ds within fs narrow q = demand3-calls cap hc outs′ long _ _ (o .made) (o .ends-empty) ds within fs narrow q
 
 pub demand3-new : Demand3New
-demand3-new cap hc outs long rec room lr lm = demand3-calls cap hc outs long (renewed rec) room (starts .new rec room lr lm .0) (starts .new rec room lr lm .1)
+demand3-new cap outs hc long rec room lr lm = demand3-calls cap hc outs long (renewed rec) room (starts .new rec room lr lm .0) (starts .new rec room lr lm .1)

@@ -2,24 +2,19 @@
 use mathlib.Core.Path.{_≡_, refl, sym, ap, _∙_, subst}
 use mathlib.Core.Bool.{Bool, true, false, cond}
 use mathlib.Core.List.{List, [], _∷_}
-use mathlib.Core.Option.{Option, none, some}
-use Prim.Native.Nat.{ℕ, zero, suc, _+_, _<_, _≤_, _^_}
+use mathlib.Core.Option.{none, some}
+use Prim.Native.Nat.{ℕ, zero, suc, _+_, _<_, _≤_}
 use native.Mathlib.Omega.{arith}
 use lib.Dec.{eqb}
 use lib.ListN.{length, getD}
-use Rattle.wire.specs.Parts.{part}
-use Rattle.blocks.specs.declared.Part.{Part}
 use Rattle.blocks.specs.declared.Block.{Block}
 use Rattle.blocks.specs.declared.Block.the-variants as Body
-use Rattle.blocks.specs.declared.Read.the-variants as Got
-use Rattle.blocks.specs.Extent.{listed}
-use Rattle.blocks.specs.Reading.{bytesAt, readAt}
-use Rattle.blocks.specs.Writing.{sizeOf, writing, roomAfter}
-use Rattle.blocks.specs.Claims.{Fitting, placed}
+use Rattle.blocks.specs.Reading.{bytesAt}
+use Rattle.blocks.specs.Writing.{sizeOf}
 use Rattle.blocks.proofs.Puts.{is-length}
 use Rattle.blocks.proofs.Faults.{first-whole, follow-on-whole}
 use Rattle.blocks.proofs.WriteThenRead.{write-then-read}
-use Rattle.reassembly.specs.Store.{Piece, first, follow, Store, Whole, Answer, empty, step}
+use Rattle.reassembly.specs.Store.{Piece, first, follow, Store, Whole, step}
 use Rattle.reassembly.specs.Stands.{stands, Made, laidOut}
 use Rattle.reassembly.proofs.Sweeps.{sweep-stands, sweep-made}
 use Rattle.messages.specs.declared.Received.{Received}
@@ -30,9 +25,9 @@ use Rattle.outcomes.specs.declared.Outcome.{Outcome}
 use Rattle.outcomes.specs.Outcomes.{outcome}
 use Rattle.outcomes.specs.Deliveries.{deliveryOutcome, deliveryNumbers, deliveredAt}
 use Rattle.outcomes.proofs.DeliveryLaws.{told-kept, told-refused, told-finished}
-use Rattle.promises.specs.Demand3.{Cut, Within, pieceOf, cutFrom, noCut, Event, deliver, tidy, Tally, noTally, done, marked, start, note, Schedule, Said, dueOne, due, times, act, saidOf, said, final, Outcome as Result}
+use Rattle.promises.specs.Demand3.{Cut, pieceOf, cutFrom, noCut, Event, deliver, tidy, Tally, noTally, done, marked, start, note, Said, dueOne, due, times, act, saidOf, said, final, Outcome as Result}
 use Rattle.promises.specs.Demand3Calls.{secondOf}
-use Rattle.promises.specs.Demand3Deliveries.{Holds, Carries, Loan, HandedOne, Handed, Tells, handed, tellings, lastRec, lastRoom, outcomeDue, numbersOf, toldDue, tellsDue, allDue, blockOf, bodyOf, Demand3Deliveries, WrittenIsHanded}
+use Rattle.promises.specs.Demand3Deliveries.{Carries, Loan, HandedOne, Handed, Tells, handed, tellings, lastRec, lastRoom, outcomeDue, numbersOf, toldDue, tellsDue, allDue, Demand3Deliveries, WrittenIsHanded}
 use Rattle.promises.proofs.Demand3.{demand3}
 
 -- the id of a piece

@@ -165,6 +165,24 @@ pub example-said :
 unfolding act saidOf step answer placeOf findId findFree messageOr plus badLength badNumber repeats clashes tooMuch complete wholeOf tooShort refused idOf numberOf finalOf bytesOf sweep sweptOne same
 example-said = refl
 
+-- Without its premises demand 3 would be false. Two open messages with one id: the second's first piece is a 55, where 0 would be due;
+abbrev oneId : List Cut
+oneId =
+    record { id = 7; typ = 20; expires = 900; pieces = (1 ∷ []) ∷ (2 ∷ []) ∷ [] }
+    ∷ record { id = 7; typ = 1; expires = 900; pieces = (3 ∷ []) ∷ (4 ∷ []) ∷ [] }
+    ∷ []
+
+pub one-id-said : said 65535 oneId empty (deliver 0 0 100 ∷ deliver 1 0 101 ∷ []) ≡ record { number = 0; out = none } ∷ record { number = 55; out = none } ∷ []
+unfolding act saidOf step answer placeOf findId findFree messageOr plus badLength badNumber repeats clashes tooMuch complete wholeOf tooShort refused idOf numberOf finalOf bytesOf same
+one-id-said = refl
+
+-- a piece that comes again after its message came out: it is kept, where 54 would be due.
+pub came-out-said :
+    said 65535 oneId empty (deliver 0 0 100 ∷ deliver 0 1 101 ∷ deliver 0 1 102 ∷ [])
+    ≡ record { number = 0; out = none } ∷ record { number = 60; out = some (record { typ = 20; expires = 900; bytes = 1 ∷ 2 ∷ [] }) } ∷ record { number = 0; out = none } ∷ []
+unfolding act saidOf step answer placeOf findId findFree messageOr plus badLength badNumber repeats clashes tooMuch complete wholeOf tooShort refused idOf numberOf finalOf bytesOf same
+came-out-said = refl
+
 -- The same schedule, delivered to the calls: it meets every premise, on every record and room that calls made and that stand for the empty store, with any assembly buffers of the lent length.
 ids-narrow : (c : ℕ) → getD threeCuts c noCut .id < 4294967296
 ids-narrow zero = omega arith

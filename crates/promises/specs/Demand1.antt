@@ -1,5 +1,5 @@
 -- Demand 1: bad input gets document 01's numbered refusal, and a refusal leaves state and lent buffers as they were.
--- The contract of every call that refuses is an equation with the definitions below, on all inputs and with no `requires`: what is said of them is said of the calls.
+-- The contracts of the calls that refuse are equations with the definitions below, over C with those of specs/Demand1Calls.antt too, on all inputs and with no `requires`: what is said of the definitions is said of the calls.
 -- The sweep answers 0 always. Who asks a tracker or reads a block lends nothing that could change; over C he lends numbers for the answer, and specs/Demand1Calls.antt says that a refusal leaves them.
 --
 -- 01's useless builds, and the promise that each of them breaks:

@@ -75,8 +75,7 @@ pub record Starts : Type 0 where
 -- and what a schedule left: another may follow, with messages and assembly buffers of its own.
 abbrev pub Demand3Again : Type 0
 Demand3Again =
-    (cap : ℕ) → 65535 ≤ cap
-    → (outs outs′ : ℕ → List ℕ) → ((n : ℕ) → length (outs′ n) ≡ cap)
+    (cap : ℕ) (outs outs′ : ℕ → List ℕ) → 65535 ≤ cap → ((n : ℕ) → length (outs′ n) ≡ cap)
     → (rec room : List ℕ) (cs : List Cut) (es : List Event) → OutcomeOfCalls cs outs rec room es
     → (ds : List Cut) → ((c : ℕ) → c < length ds → Within (getD ds c noCut))
     → (fs : List Event) → Narrow ds fs → Schedule ds (start ds) fs
@@ -85,8 +84,7 @@ Demand3Again =
 -- Demand 3 of the calls that follow strawhub_store_new, whatever the record held
 abbrev pub Demand3New : Type 0
 Demand3New =
-    (cap : ℕ) → 65535 ≤ cap
-    → (outs : ℕ → List ℕ) → ((n : ℕ) → length (outs n) ≡ cap)
+    (cap : ℕ) (outs : ℕ → List ℕ) → 65535 ≤ cap → ((n : ℕ) → length (outs n) ≡ cap)
     → (rec room : List ℕ) → 8576 ≤ length rec → 1048560 ≤ length room
     → (cs : List Cut) → ((c : ℕ) → c < length cs → Within (getD cs c noCut))
     → (es : List Event) → Narrow cs es → Schedule cs (start cs) es

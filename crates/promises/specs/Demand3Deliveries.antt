@@ -2,7 +2,7 @@
 -- `deliveryOutcome`, `deliveryNumbers`, `deliveredAt` and `swept` are what the contracts of these calls say of every payload, place, record, room, buffer and six numbers.
 use mathlib.Core.Path.{_≡_}
 use mathlib.Core.Bool.{true, cond}
-use mathlib.Core.List.{List, [], _∷_, map}
+use mathlib.Core.List.{List, [], _∷_}
 use mathlib.Core.Option.{Option, none, some}
 use Prim.Native.Nat.{ℕ, suc, _≤_, _<_}
 use lib.Dec.{eqb}
@@ -24,8 +24,8 @@ use Rattle.outcomes.specs.Deliveries.{deliveryOutcome, deliveryNumbers, deliver
 use Rattle.promises.specs.Demand3.{Cut, Within, pieceOf, noCut, Event, deliver, tidy, start, Schedule, Said, due, times}
 use Rattle.promises.specs.Demand3Calls.{Narrow}
 
--- a block is read at a place of a payload, and its part of the payload has these bytes
-pub record Holds (s : List ℕ) (at : ℕ) (block : Part → Block) (bytes : List ℕ) : Type 0 where
+-- a payload has a block at a place, whose part of the payload has these bytes
+pub record HasBlock (s : List ℕ) (at : ℕ) (block : Part → Block) (bytes : List ℕ) : Type 0 where
   pub body : Part
   pub size : ℕ
   pub next : ℕ
@@ -34,8 +34,8 @@ pub record Holds (s : List ℕ) (at : ℕ) (block : Part → Block) (bytes : Lis
 
 -- a piece is the block at a place: a first fragment with type, id and expiration, a follow-on with number, mark of the last and id
 abbrev pub Carries : List ℕ → ℕ → Piece → Type 0
-Carries s at (first id typ expires bytes) = Holds s at (λ p. Body.FirstFragment typ id expires p) bytes
-Carries s at (follow id number final bytes) = Holds s at (λ p. Body.FollowOnFragment number final id p) bytes
+Carries s at (first id typ expires bytes) = HasBlock s at (λ p. Body.FirstFragment typ id expires p) bytes
+Carries s at (follow id number final bytes) = HasBlock s at (λ p. Body.FollowOnFragment number final id p) bytes
 
 -- What a call is lent for itself: a payload and a place in it, the assembly buffer, the six numbers; whatever they hold.
 pub record Loan : Type 0 where
