@@ -64,7 +64,7 @@ enum strawhub_number {
 	STRAWHUB_FINISHED = 60               /* a message is finished */
 };
 
-/* 0 and a length, a count or a place; or a refusal and, for blocks that are read, its place. */
+/* 0 and a length, a count or a place; or a refusal and, for blocks that are read or delivered, the block's place. */
 struct strawhub_outcome {
 	uint64_t number;
 	uint64_t value;
@@ -180,8 +180,8 @@ uint8_t strawhub_store_sweep(uint8_t *record, size_t record_len, uint64_t second
 /* What the block at a place delivers. told: where the message stands (0 none, 1 in the payload, 2 in
  * the assembly buffer), its I2NP type, id, expiration, place and length there; all 0 where there is
  * none. 0: a whole message, or none (a piece was kept, or a block of another type); 60: a rebuilt one.
- * Or 1 to 9 and the block's place, or the store's refusal (59 for pieces alone), and then told too is
- * as it was. */
+ * Or 1 to 9, or the store's refusal (59 for pieces alone), with the block's place, and then told too
+ * is as it was. */
 struct strawhub_outcome strawhub_block_deliver(const uint8_t *payload, size_t payload_len, size_t at, uint8_t *record,
                                                size_t record_len, uint8_t *room, size_t room_len, uint8_t *out,
                                                size_t out_len, uint64_t second, uint64_t told[6]);

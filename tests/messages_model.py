@@ -5,7 +5,7 @@ NOTHING = (0, 0, 0, 0, 0, 0)
 
 
 def deliver(payload, at, store, second, room):
-    """(number, place of a refused block or 0, told, rebuilt message); told is (where, type, id, expiration, place, length) or None."""
+    """(number, place of the block where it or its piece is refused, else 0, told, rebuilt message); told is (where, type, id, expiration, place, length) or None."""
     number, after, block = shown(payload, at)
     if number:
         return number, at, None, None
@@ -22,4 +22,4 @@ def deliver(payload, at, store, second, room):
         number, message = store.follow_on(ident, fields[0], bool(fields[1]), second, data, room)
     if number == 60:
         return 60, 0, (2, message[0], ident, message[1], 0, len(message[2])), message[2]
-    return number, 0, NOTHING if number == 0 else None, None
+    return (0, 0, NOTHING, None) if number == 0 else (number, at, None, None)

@@ -202,7 +202,7 @@ impl<'a> FragmentHandler<'a> {
     }
 
     /// What the block at a place of a payload delivers. Refuses as [`Block::read`] does, or as the
-    /// store refuses the piece that the block has.
+    /// store refuses the piece that the block has; the place of both is the block's.
     ///
     /// [`Block::read`]: crate::Block::read
     ///
@@ -224,7 +224,8 @@ impl<'a> FragmentHandler<'a> {
         let outcome = ffi::block_deliver(payload, at, self.store(), second, &mut told);
         if outcome.number != 0 && outcome.number != FINISHED {
             let refusal = Refusal::of(outcome.number);
-            return Err(RefusedAt { refusal, place: at });
+            let place = outcome.value as usize;
+            return Err(RefusedAt { refusal, place });
         }
         let [stands, message_type, message_id, expiration, start, length] = told;
         let message = |bytes: &'m [u8]| Message {

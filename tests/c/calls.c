@@ -405,7 +405,7 @@ static void block_deliver(void)
 	CHECK(memcmp(told, none, sizeof told) == 0);
 	copy = store;
 	memset(told, 0x77, sizeof told);
-	CHECK(is(deliver(payload, sizeof payload, 16, told), 54, 0));
+	CHECK(is(deliver(payload, sizeof payload, 16, told), 54, 16));
 	CHECK(all(told, sizeof told, 0x77) && unchanged());
 	CHECK(deliver(last, sizeof last, 0, told).number == STRAWHUB_FINISHED);
 	CHECK(memcmp(told, rebuilt, sizeof told) == 0 && memcmp(store.out, "abcd", 4) == 0);

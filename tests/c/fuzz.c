@@ -796,6 +796,7 @@ static void block_deliver(void)
 	copy_lent();
 	r = strawhub_block_deliver(p, payload.n, place, at, record.n, room_at, room_length, o, out.n, second_now, told);
 	must(may_answer(r.number, READING KEEPING), "another number");
+	must(r.value == (is_refusal(r.number) ? place : 0), "another place");
 	answer(r.number);
 	keep_record();
 	stays(&out, r.number == STRAWHUB_FINISHED ? (size_t)told[5] : 0);

@@ -87,15 +87,16 @@ def all_in_one(d):
 def short_loans(calls, judge, rng):
     """A fragment over a short record or room is refused with 59, after the block's own refusals; other blocks need no store."""
     pieces = ((11, 3), [b"a", b"b"])
-    none, whole = bytes(48), numbers((1, 18, 0, 0, 12, 5))
-    cases = [(fragment(1, pieces, 0), (59, 0), None), (fragment(1, pieces, 1), (59, 0), None), (block(5, bytes(5) + b"x"), (59, 0), None),
-             (block(4, bytes([99]) * 9), (3, 0), None), (b"", (1, 0), None), (block(15, b""), (0, 0), none),
+    none, whole = bytes(48), numbers((1, 18, 0, 0, 15, 5))
+    cases = [(fragment(1, pieces, 0), (59, 3), None), (fragment(1, pieces, 1), (59, 3), None), (block(5, bytes(5) + b"x"), (59, 3), None),
+             (block(4, bytes([99]) * 9), (3, 3), None), (b"", (1, 3), None), (block(15, b""), (0, 0), none),
              (block(3, bytes([18]) + bytes(8) + b"whole"), (0, 0), whole)]
     for record_size, room_size in ((0, ROOM), (RECORD - 1, ROOM), (RECORD, 0), (RECORD, ROOM - 1)):
         record, room, out = Lent(rng.randbytes(record_size)), Lent(b"r" * room_size), Lent(b"o" * 20)
-        for payload, wanted, message in cases:
+        for last, wanted, message in cases:
+            payload = block(15, b"") + last
             lent, told = Lent(payload), Lent(b"t" * 48)
-            got = calls.block_deliver(*lent.slice(), 0, *record.slice(), *room.slice(), *out.slice(), 1, told.address)
+            got = calls.block_deliver(*lent.slice(), 3, *record.slice(), *room.slice(), *out.slice(), 1, told.address)
             stands = all(x.stays() for x in (lent, record, room, out)) and (told.stays() if message is None else told.start_is(message))
             judge.compare((got.number, got.value), wanted, stands, "block_deliver on a short loan", payload, record_size, room_size)
 

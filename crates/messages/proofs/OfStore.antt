@@ -1,16 +1,20 @@
 -- What a fragment delivers is what the store's step brings out. Assumes nothing.
 use mathlib.Core.Path.{_≡_, refl, sym, ap, _∙_}
-use mathlib.Core.Bool.{false}
+use mathlib.Core.Bool.{Bool, true, false, cond}
 use mathlib.Core.List.{List, []}
 use mathlib.Core.Option.{Option, none, some}
 use Prim.Native.Nat.{ℕ, _≤_}
 use native.Mathlib.Omega.{arith}
 use lib.ListN.{length}
-use borrow.Author.Tests.{ne-eqb}
+use lib.Dec.{eqb}
+use borrow.Author.Tests.{ne-eqb, eqb-true}
 use Rattle.wire.specs.Parts.{part, splice}
 use Rattle.wire.proofs.Parts.{part-same}
 use Rattle.blocks.specs.declared.Part.{Part}
+use Rattle.blocks.specs.declared.Block.{Block}
 use Rattle.blocks.specs.declared.Block.the-variants as Body
+use Rattle.blocks.specs.declared.Read.the-variants as Got
+use Rattle.blocks.specs.Reading.{readAt}
 use Rattle.reassembly.specs.declared.Reply.{Reply}
 use Rattle.reassembly.specs.Store.{first, follow, Whole, Answer, step}
 use Rattle.reassembly.specs.Calls.{After, firstCall, followOnCall}
@@ -18,73 +22,106 @@ use Rattle.reassembly.specs.Stands.{stands, Agrees}
 use Rattle.reassembly.proofs.Steps.{first-promise, follow-promise}
 use Rattle.reassembly.proofs.Brought.{Sober, step-sober, reply-number, reply-some, laid-some}
 use Rattle.messages.specs.declared.Received.{Received}
-use Rattle.messages.specs.Delivery.{left, nothing, wholeAt, rebuiltBy, rebuilt, deliveredBy, messageIn}
-use Rattle.messages.specs.Shown.{outBytes, OfStore, FirstOfStore, FollowOfStore}
+use Rattle.messages.specs.Delivery.{left, nothing, wholeAt, rebuiltBy, rebuilt, deliveredBy, delivered, messageIn}
+use Rattle.messages.specs.Shown.{outBytes, receivedFor, OfStore, FirstOfStore, FollowOfStore}
 
-from-none : (r : Reply) (id n : ℕ) → r .number ≡ n → (n ≡ 60 → ⊥) → rebuiltBy r id ≡ nothing n 0
-unfolding rebuiltBy
-from-none r id n e h = rw (e, ne-eqb n 60 h) refl
+from-none : (at : ℕ) (r : Reply) (id n : ℕ) → r .number ≡ n → (n ≡ 60 → ⊥) → rebuiltBy at r id ≡ receivedFor at id n none
+unfolding rebuiltBy receivedFor
+from-none at r id n e h = rw (e, ne-eqb n 60 h) refl
 
-from-some : (r : Reply) (id k x n : ℕ) → r ≡ record { number = 60; kind = k; expires = x; length = n }
-    → rebuiltBy r id ≡ record { number = 60; from = 2; kind = k; id = id; expires = x; start = 0; length = n }
-unfolding rebuiltBy
-from-some r id k x n e = ap (λ (z : Reply). rebuiltBy z id) e
+from-some : (at : ℕ) (r : Reply) (id n : ℕ) (w : Whole) → n ≡ 60 → r ≡ record { number = n; kind = w .typ; expires = w .expires; length = length (w .bytes) }
+    → rebuiltBy at r id ≡ receivedFor at id n (some w)
+unfolding rebuiltBy receivedFor
+from-some at r id n w q e =
+    ap (λ (z : Reply). rebuiltBy at z id) (e ∙ ap (λ (z : ℕ). record { number = z; kind = w .typ; expires = w .expires; length = length (w .bytes) }) q)
+    ∙ ap (λ (z : ℕ). receivedFor at id z (some w)) (sym q)
 
-none-shown : (s out : List ℕ) (n : ℕ) → messageIn s out (nothing n 0) ≡ []
-unfolding messageIn nothing
-none-shown s out n = refl
-
-some-shown : (s out w : List ℕ) (k id x : ℕ) → length w ≤ length out
-    → messageIn s (splice out 0 w) (record { number = 60; from = 2; kind = k; id = id; expires = x; start = 0; length = length w }) ≡ w
-unfolding messageIn
-some-shown s out w k id x h = part-same out 0 w (omega arith)
-
-rebuilt-of : (s out : List ℕ) (x : After) (a : Answer) (id : ℕ) → Agrees out x a → Sober (length out) a → OfStore s (rebuilt x id) a
-unfolding rebuilt nothing outBytes
-rebuilt-of s out x a id g b = go (a .out) refl
+-- what is received has the store's number
+received-number : (at id n : ℕ) (o : Option Whole) → receivedFor at id n o .number ≡ n
+unfolding receivedFor nothing
+received-number at id n (some w) = refl
+received-number at id n none = go (eqb n 0) refl
   where
-    go : (o : Option Whole) → a .out ≡ o → OfStore s (left (rebuiltBy (x .reply) id) (x .rec) (x .room) (x .out)) a
+    go : (b : Bool) → eqb n 0 ≡ b → cond b (nothing 0 0) (nothing n at) .number ≡ n
+    go true e = sym (eqb-true n 0 e)
+    go false e = refl
+
+-- a kept piece, a refused one, and one that finished its message
+pub received-kept : (at id : ℕ) → receivedFor at id 0 none ≡ record { number = 0; from = 0; kind = 0; id = 0; expires = 0; start = 0; length = 0 }
+unfolding receivedFor nothing
+received-kept at id = refl
+
+pub received-refused : (at id n : ℕ) → (n ≡ 0 → ⊥) → receivedFor at id n none ≡ record { number = n; from = 0; kind = 0; id = 0; expires = 0; start = at; length = 0 }
+unfolding receivedFor nothing
+received-refused at id n h = rw (ne-eqb n 0 h) refl
+
+pub received-whole : (at id n : ℕ) (w : Whole) → receivedFor at id n (some w) ≡ record { number = n; from = 2; kind = w .typ; id = id; expires = w .expires; start = 0; length = length (w .bytes) }
+unfolding receivedFor
+received-whole at id n w = refl
+
+none-shown : (s out : List ℕ) (at id n : ℕ) → messageIn s out (receivedFor at id n none) ≡ []
+unfolding messageIn nothing receivedFor
+none-shown s out at id n = go (eqb n 0)
+  where
+    go : (b : Bool) → messageIn s out (cond b (nothing 0 0) (nothing n at)) ≡ []
+    go true = refl
+    go false = refl
+
+some-shown : (s out : List ℕ) (at id n : ℕ) (w : Whole) → length (w .bytes) ≤ length out → messageIn s (splice out 0 (w .bytes)) (receivedFor at id n (some w)) ≡ w .bytes
+unfolding messageIn receivedFor
+some-shown s out at id n w h = part-same out 0 (w .bytes) (omega arith)
+
+rebuilt-of : (s : List ℕ) (at : ℕ) (out : List ℕ) (x : After) (a : Answer) (id : ℕ) → Agrees out x a → Sober (length out) a → OfStore s at id out (rebuilt at x id) a
+unfolding rebuilt outBytes
+rebuilt-of s at out x a id g b = go (a .out) refl
+  where
+    of : rebuiltBy at (x .reply) id ≡ receivedFor at id (a .number) (a .out) → messageIn s (x .out) (receivedFor at id (a .number) (a .out)) ≡ outBytes (a .out)
+        → OfStore s at id out (left (rebuiltBy at (x .reply) id) (x .rec) (x .room) (x .out)) a
+    of d m =
+        record {
+          received = d;
+          buffer = g .delivered;
+          number = ap (λ (z : Received). z .number) d ∙ received-number at id (a .number) (a .out);
+          message = ap (messageIn s (x .out)) d ∙ m;
+          store = g .store;
+          made = g .made;
+        }
+
+    go : (o : Option Whole) → a .out ≡ o → OfStore s at id out (left (rebuiltBy at (x .reply) id) (x .rec) (x .room) (x .out)) a
     go none e =
-        let d : rebuiltBy (x .reply) id ≡ nothing (a .number) 0 = from-none (x .reply) id (a .number) (reply-number out x a g) (b .none-out e) in
-        record {
-          number = ap (λ (z : Received). z .number) d;
-          message = ap (messageIn s (x .out)) d ∙ none-shown s (x .out) (a .number) ∙ ap outBytes (sym e);
-          store = g .store;
-          made = g .made;
-        }
+        of (from-none at (x .reply) id (a .number) (reply-number out x a g) (b .none-out e) ∙ ap (receivedFor at id (a .number)) (sym e))
+        (ap (λ (o : Option Whole). messageIn s (x .out) (receivedFor at id (a .number) o)) e ∙ none-shown s (x .out) at id (a .number) ∙ ap outBytes (sym e))
     go (some w) e =
-        let n : a .number ≡ 60 = b .some-out w e .0 in
-        let r : x .reply ≡ record { number = 60; kind = w .typ; expires = w .expires; length = length (w .bytes) } = reply-some out x a g w e ∙ ap (λ (z : ℕ). record { number = z; kind = w .typ; expires = w .expires; length = length (w .bytes) }) n in
-        let d : rebuiltBy (x .reply) id ≡ record { number = 60; from = 2; kind = w .typ; id = id; expires = w .expires; start = 0; length = length (w .bytes) } = from-some (x .reply) id (w .typ) (w .expires) (length (w .bytes)) r in
-        let o : x .out ≡ splice out 0 (w .bytes) = laid-some out x a g w e in
-        record {
-          number = ap (λ (z : Received). z .number) d ∙ sym n;
-          message = ap (messageIn s (x .out)) d
-              ∙ ap (λ (z : List ℕ). messageIn s z (record { number = 60; from = 2; kind = w .typ; id = id; expires = w .expires; start = 0; length = length (w .bytes) })) o
-              ∙ some-shown s out (w .bytes) (w .typ) id (w .expires) (b .some-out w e .1)
-              ∙ ap outBytes (sym e);
-          store = g .store;
-          made = g .made;
-        }
+        of (from-some at (x .reply) id (a .number) w (b .some-out w e .0) (reply-some out x a g w e) ∙ ap (receivedFor at id (a .number)) (sym e))
+        (ap (λ (o : Option Whole). messageIn s (x .out) (receivedFor at id (a .number) o)) e
+        ∙ ap (λ (z : List ℕ). messageIn s z (receivedFor at id (a .number) (some w))) (laid-some out x a g w e)
+        ∙ some-shown s out at id (a .number) w (b .some-out w e .1)
+        ∙ ap outBytes (sym e))
 
 pub first-of-store : FirstOfStore
 unfolding deliveredBy
-first-of-store s rec room out second k i x p m hi hx hs =
-    rebuilt-of s out (firstCall rec room out (record { id = i; number = 0; last = false; kind = k; expires = x }) second (part s (p .start) (p .len)))
+first-of-store s at rec room out second k i x p m hi hx hs =
+    rebuilt-of s at out (firstCall rec room out (record { id = i; number = 0; last = false; kind = k; expires = x }) second (part s (p .start) (p .len)))
     (step (length out) (stands rec room) (first i k x (part s (p .start) (p .len))) second) i
     (first-promise rec room out i k x second (part s (p .start) (p .len)) _ hi hx hs refl m)
     (step-sober (length out) (stands rec room) (first i k x (part s (p .start) (p .len))) second)
 
 pub follow-of-store : FollowOfStore
 unfolding deliveredBy
-follow-of-store s rec room out second n l i p m hi hs =
-    rebuilt-of s out (followOnCall rec room out (record { id = i; number = n; last = l; kind = 0; expires = 0 }) second (part s (p .start) (p .len)))
+follow-of-store s at rec room out second n l i p m hi hs =
+    rebuilt-of s at out (followOnCall rec room out (record { id = i; number = n; last = l; kind = 0; expires = 0 }) second (part s (p .start) (p .len)))
     (step (length out) (stands rec room) (follow i n l (part s (p .start) (p .len))) second) i
     (follow-promise rec room out i n l second (part s (p .start) (p .len)) _ hi hs refl m)
     (step-sober (length out) (stands rec room) (follow i n l (part s (p .start) (p .len))) second)
 
 -- a whole message is its block's part of the payload, and the store stays
-pub whole-shown : (s rec room out : List ℕ) (second k i x : ℕ) (p : Part)
-    → messageIn s (deliveredBy s rec room out second (Body.I2np k i x p) .out) (deliveredBy s rec room out second (Body.I2np k i x p) .received) ≡ part s (p .start) (p .len)
+pub whole-shown : (s : List ℕ) (at : ℕ) (rec room out : List ℕ) (second k i x : ℕ) (p : Part)
+    → messageIn s (deliveredBy s at rec room out second (Body.I2np k i x p) .out) (deliveredBy s at rec room out second (Body.I2np k i x p) .received) ≡ part s (p .start) (p .len)
 unfolding deliveredBy messageIn wholeAt
-whole-shown s rec room out second k i x p = refl
+whole-shown s at rec room out second k i x p = refl
+
+-- what is delivered at a place is what the block that is read there delivers
+pub read-delivers : (s : List ℕ) (at : ℕ) (rec room out : List ℕ) (second : ℕ) (b : Block) (size next : ℕ) → readAt s at ≡ Got.Block b size next
+    → delivered s at rec room out second (readAt s at) ≡ deliveredBy s at rec room out second b
+unfolding delivered
+read-delivers s at rec room out second b size next e = ap (delivered s at rec room out second) e

@@ -1,11 +1,11 @@
--- A refused delivery leaves record, room and assembly buffer as they were, and its number is one of 01's. Assumes nothing.
+-- A refused delivery has the block's place, leaves record, room and assembly buffer as they were, and its number is one of 01's. Assumes nothing.
 use mathlib.Core.Path.{_≡_, refl, sym, ap, _∙_, subst}
 use mathlib.Core.Logic.{_⊎_, inl, inr}
 use mathlib.Core.Bool.{Bool, true, false, cond}
 use mathlib.Core.List.{List, [], _∷_}
 use Prim.Native.Nat.{ℕ}
 use lib.Dec.{eqb}
-use borrow.Author.Tests.{eqb-true}
+use borrow.Author.Tests.{eqb-true, ne-eqb}
 use types.Run.{OneOf}
 use Rattle.wire.specs.Parts.{part}
 use Rattle.blocks.specs.declared.Block.{Block}
@@ -19,33 +19,57 @@ use Rattle.reassembly.specs.Calls.{After, after, firstCall, followOnCall}
 use Rattle.reassembly.specs.Careful.{Careful}
 use Rattle.reassembly.proofs.Refusals.{careful-first, careful-follow-on}
 use Rattle.reassembly.proofs.Refused.{followOnNumbers, of-first, first-numbers, follow-on-numbers}
+use Rattle.messages.specs.declared.Received.{Received}
 use Rattle.messages.specs.Delivery.{Left, left, nothing, wholeAt, rebuiltBy, rebuilt, deliveredBy, delivered}
 
 -- a piece's number is the store's
-number-is : (r : Reply) (id : ℕ) → rebuiltBy r id .number ≡ r .number
+number-is : (at : ℕ) (r : Reply) (id : ℕ) → rebuiltBy at r id .number ≡ r .number
 unfolding rebuiltBy nothing
-number-is r id = go (eqb (r .number) 60) refl
+number-is at r id = go (eqb (r .number) 60) refl (eqb (r .number) 0) refl
   where
-    go : (b : Bool) → eqb (r .number) 60 ≡ b
-        → cond b (record { number = 60; from = 2; kind = r .kind; id = id; expires = r .expires; start = 0; length = r .length }) (nothing (r .number) 0) .number ≡ r .number
-    go true e = sym (eqb-true (r .number) 60 e)
-    go false e = refl
+    go : (b : Bool) → eqb (r .number) 60 ≡ b → (c : Bool) → eqb (r .number) 0 ≡ c
+        → cond b (record { number = 60; from = 2; kind = r .kind; id = id; expires = r .expires; start = 0; length = r .length }) (cond c (nothing 0 0) (nothing (r .number) at)) .number ≡ r .number
+    go true e c f = sym (eqb-true (r .number) 60 e)
+    go false e true f = sym (eqb-true (r .number) 0 f)
+    go false e false f = refl
 
-module _ (s rec room out : List ℕ) (second : ℕ) where
-  -- neither kept nor finished, and all is as it was
+-- a refusal of the store has the block's place
+refusal-is : (at : ℕ) (r : Reply) (id : ℕ) → (r .number ≡ 0 → ⊥) → (r .number ≡ 60 → ⊥) → rebuiltBy at r id ≡ nothing (r .number) at
+unfolding rebuiltBy
+refusal-is at r id kept done = rw (ne-eqb (r .number) 60 done, ne-eqb (r .number) 0 kept) refl
+
+-- the number and the place of what delivers nothing
+pub nothing-number : (n p : ℕ) → nothing n p .number ≡ n
+unfolding nothing
+nothing-number n p = refl
+
+pub nothing-start : (n p : ℕ) → nothing n p .start ≡ p
+unfolding nothing
+nothing-start n p = refl
+
+module _ (s : List ℕ) (at : ℕ) (rec room out : List ℕ) (second : ℕ) where
+  -- neither kept nor finished: the number, the block's place, and all is as it was
   abbrev Stays : Left → Type 0
-  Stays x = (x .received .number ≡ 0 → ⊥) → (x .received .number ≡ 60 → ⊥) → x ≡ left (x .received) rec room out
+  Stays x = (x .received .number ≡ 0 → ⊥) → (x .received .number ≡ 60 → ⊥) → x ≡ left (nothing (x .received .number) at) rec room out
 
-  piece-stays : (x : After) (id : ℕ) → Careful rec room out x → Stays (rebuilt x id)
+  piece-stays : (x : After) (id : ℕ) → Careful rec room out x → Stays (rebuilt at x id)
   unfolding rebuilt
   piece-stays x id c kept done = go (c .refusal)
     where
-      go : ((x .reply .number ≡ 0) ⊎ ((x .reply .number ≡ 60) ⊎ (x ≡ after (x .reply) rec room out))) → rebuilt x id ≡ left (rebuiltBy (x .reply) id) rec room out
-      go (inl e) = absurd (kept (number-is (x .reply) id ∙ e))
-      go (inr (inl e)) = absurd (done (number-is (x .reply) id ∙ e))
-      go (inr (inr e)) = ap (λ (y : After). left (rebuiltBy (x .reply) id) (y .rec) (y .room) (y .out)) e
+      n : rebuiltBy at (x .reply) id .number ≡ x .reply .number
+      n = number-is at (x .reply) id
 
-  block-stays : (b : Block) → Stays (deliveredBy s rec room out second b)
+      is : rebuiltBy at (x .reply) id ≡ nothing (rebuiltBy at (x .reply) id .number) at
+      is = refusal-is at (x .reply) id (λ e. kept (n ∙ e)) (λ e. done (n ∙ e)) ∙ ap (λ (k : ℕ). nothing k at) (sym n)
+
+      go : ((x .reply .number ≡ 0) ⊎ ((x .reply .number ≡ 60) ⊎ (x ≡ after (x .reply) rec room out))) → rebuilt at x id ≡ left (nothing (rebuiltBy at (x .reply) id .number) at) rec room out
+      go (inl e) = absurd (kept (n ∙ e))
+      go (inr (inl e)) = absurd (done (n ∙ e))
+      go (inr (inr e)) =
+          ap (λ (y : After). left (rebuiltBy at (x .reply) id) (y .rec) (y .room) (y .out)) e
+          ∙ ap (λ (r : Received). left r rec room out) is
+
+  block-stays : (b : Block) → Stays (deliveredBy s at rec room out second b)
   unfolding deliveredBy wholeAt nothing
   block-stays (Body.FirstFragment k i x p) =
       piece-stays (firstCall rec room out (record { id = i; number = 0; last = false; kind = k; expires = x }) second (part s (p .start) (p .len))) i
@@ -53,28 +77,30 @@ module _ (s rec room out : List ℕ) (second : ℕ) where
   block-stays (Body.FollowOnFragment n l i p) =
       piece-stays (followOnCall rec room out (record { id = i; number = n; last = l; kind = 0; expires = 0 }) second (part s (p .start) (p .len))) i
       (careful-follow-on rec room out (record { id = i; number = n; last = l; kind = 0; expires = 0 }) second (part s (p .start) (p .len)))
-  block-stays (Body.I2np k i x p) = λ kept done. refl
-  block-stays (Body.DateTime t) = λ kept done. refl
-  block-stays (Body.Options a b c d e f g h) = λ kept done. refl
-  block-stays (Body.RouterInfo f g p) = λ kept done. refl
-  block-stays (Body.Termination n r) = λ kept done. refl
-  block-stays (Body.Ack t n p) = λ kept done. refl
-  block-stays (Body.Address o p) = λ kept done. refl
-  block-stays Body.RelayTagRequest = λ kept done. refl
-  block-stays (Body.RelayTag t) = λ kept done. refl
-  block-stays (Body.NewToken x t) = λ kept done. refl
-  block-stays (Body.PathChallenge p) = λ kept done. refl
-  block-stays (Body.PathResponse p) = λ kept done. refl
-  block-stays (Body.FirstPacketNumber n) = λ kept done. refl
-  block-stays (Body.Congestion f) = λ kept done. refl
-  block-stays (Body.Padding p) = λ kept done. refl
-  block-stays (Body.Opaque k p) = λ kept done. refl
+  block-stays (Body.I2np k i x p) = λ kept done. absurd (kept refl)
+  block-stays (Body.DateTime t) = λ kept done. absurd (kept refl)
+  block-stays (Body.Options a b c d e f g h) = λ kept done. absurd (kept refl)
+  block-stays (Body.RouterInfo f g p) = λ kept done. absurd (kept refl)
+  block-stays (Body.Termination n r) = λ kept done. absurd (kept refl)
+  block-stays (Body.Ack t n p) = λ kept done. absurd (kept refl)
+  block-stays (Body.Address o p) = λ kept done. absurd (kept refl)
+  block-stays Body.RelayTagRequest = λ kept done. absurd (kept refl)
+  block-stays (Body.RelayTag t) = λ kept done. absurd (kept refl)
+  block-stays (Body.NewToken x t) = λ kept done. absurd (kept refl)
+  block-stays (Body.PathChallenge p) = λ kept done. absurd (kept refl)
+  block-stays (Body.PathResponse p) = λ kept done. absurd (kept refl)
+  block-stays (Body.FirstPacketNumber n) = λ kept done. absurd (kept refl)
+  block-stays (Body.Congestion f) = λ kept done. absurd (kept refl)
+  block-stays (Body.Padding p) = λ kept done. absurd (kept refl)
+  block-stays (Body.Opaque k p) = λ kept done. absurd (kept refl)
 
-  pub delivery-stays : (r : Read) → (delivered s rec room out second r .received .number ≡ 0 → ⊥) → (delivered s rec room out second r .received .number ≡ 60 → ⊥)
-      → delivered s rec room out second r ≡ left (delivered s rec room out second r .received) rec room out
-  unfolding delivered
-  delivery-stays (Got.Block b z n) = block-stays b
-  delivery-stays (Got.Refused m p) = λ kept done. refl
+  pub delivery-stays : Stays (delivered s at rec room out second (readAt s at))
+  unfolding delivered nothing
+  delivery-stays = go (readAt s at) refl
+    where
+      go : (r : Read) → readAt s at ≡ r → Stays (delivered s at rec room out second r)
+      go (Got.Block b z n) e = block-stays b
+      go (Got.Refused m p) e = λ kept done. ap (λ (q : ℕ). left (nothing m q) rec room out) (read-numbers s at m p e .0)
 
 -- kept and finished, a block's refusals, a piece's
 abbrev pub deliveryNumbers : List ℕ
@@ -99,12 +125,12 @@ of-block n (inr (inr (inr (inr (inr (inr (inr (inr e)))))))) = inr (inr (inr (in
 none : OneOf deliveryNumbers 0
 none = of-piece 0 (inl refl)
 
-module _ (s rec room out : List ℕ) (second : ℕ) where
-  piece-numbers : (x : After) (id : ℕ) → OneOf followOnNumbers (x .reply .number) → OneOf deliveryNumbers (rebuilt x id .received .number)
+module _ (s : List ℕ) (at : ℕ) (rec room out : List ℕ) (second : ℕ) where
+  piece-numbers : (x : After) (id : ℕ) → OneOf followOnNumbers (x .reply .number) → OneOf deliveryNumbers (rebuilt at x id .received .number)
   unfolding rebuilt
-  piece-numbers x id e = of-piece _ (subst (OneOf followOnNumbers) (sym (number-is (x .reply) id)) e)
+  piece-numbers x id e = of-piece _ (subst (OneOf followOnNumbers) (sym (number-is at (x .reply) id)) e)
 
-  block-numbers : (b : Block) → OneOf deliveryNumbers (deliveredBy s rec room out second b .received .number)
+  block-numbers : (b : Block) → OneOf deliveryNumbers (deliveredBy s at rec room out second b .received .number)
   unfolding deliveredBy wholeAt nothing
   block-numbers (Body.FirstFragment k i x p) =
       piece-numbers (firstCall rec room out (record { id = i; number = 0; last = false; kind = k; expires = x }) second (part s (p .start) (p .len))) i
@@ -129,10 +155,10 @@ module _ (s rec room out : List ℕ) (second : ℕ) where
   block-numbers (Body.Padding p) = none
   block-numbers (Body.Opaque k p) = none
 
-  pub delivery-numbers : (at : ℕ) → OneOf deliveryNumbers (delivered s rec room out second (readAt s at) .received .number)
+  pub delivery-numbers : OneOf deliveryNumbers (delivered s at rec room out second (readAt s at) .received .number)
   unfolding delivered nothing
-  delivery-numbers at = go (readAt s at) refl
+  delivery-numbers = go (readAt s at) refl
     where
-      go : (r : Read) → readAt s at ≡ r → OneOf deliveryNumbers (delivered s rec room out second r .received .number)
+      go : (r : Read) → readAt s at ≡ r → OneOf deliveryNumbers (delivered s at rec room out second r .received .number)
       go (Got.Block b z n) e = block-numbers b
       go (Got.Refused m p) e = of-block m (read-numbers s at m p e .1)

@@ -31,44 +31,44 @@ nothing n p = record { number = n; from = 0; kind = 0; id = 0; expires = 0; star
 unfoldable pub wholeAt : ℕ → ℕ → ℕ → Part → Received
 wholeAt kind id expires p = record { number = 0; from = 1; kind = kind; id = id; expires = expires; start = p .start; length = p .len }
 
--- a finished message stands at the start of the assembly buffer
-unfoldable pub rebuiltBy : Reply → ℕ → Received
-rebuiltBy r id =
+-- a finished message stands at the start of the assembly buffer; a refusal of the store has the place of the block that had the piece
+unfoldable pub rebuiltBy : ℕ → Reply → ℕ → Received
+rebuiltBy at r id =
     cond (eqb (r .number) 60)
     (record { number = 60; from = 2; kind = r .kind; id = id; expires = r .expires; start = 0; length = r .length })
-    (nothing (r .number) 0)
+    (cond (eqb (r .number) 0) (nothing 0 0) (nothing (r .number) at))
 
 -- what the store's call for a piece left
-unfoldable pub rebuilt : After → ℕ → Left
-rebuilt x id = left (rebuiltBy (x .reply) id) (x .rec) (x .room) (x .out)
+unfoldable pub rebuilt : ℕ → After → ℕ → Left
+rebuilt at x id = left (rebuiltBy at (x .reply) id) (x .rec) (x .room) (x .out)
 
--- a block that was read
-unfoldable pub deliveredBy : List ℕ → List ℕ → List ℕ → List ℕ → ℕ → Block → Left
-deliveredBy s rec room out second (Body.I2np k i x p) = left (wholeAt k i x p) rec room out
-deliveredBy s rec room out second (Body.FirstFragment k i x p) =
-    rebuilt (firstCall rec room out (record { id = i; number = 0; last = false; kind = k; expires = x }) second (part s (p .start) (p .len))) i
-deliveredBy s rec room out second (Body.FollowOnFragment n l i p) =
-    rebuilt (followOnCall rec room out (record { id = i; number = n; last = l; kind = 0; expires = 0 }) second (part s (p .start) (p .len))) i
-deliveredBy s rec room out second (Body.DateTime t) = left (nothing 0 0) rec room out
-deliveredBy s rec room out second (Body.Options a b c d e f g h) = left (nothing 0 0) rec room out
-deliveredBy s rec room out second (Body.RouterInfo f g p) = left (nothing 0 0) rec room out
-deliveredBy s rec room out second (Body.Termination n r) = left (nothing 0 0) rec room out
-deliveredBy s rec room out second (Body.Ack t n p) = left (nothing 0 0) rec room out
-deliveredBy s rec room out second (Body.Address o p) = left (nothing 0 0) rec room out
-deliveredBy s rec room out second Body.RelayTagRequest = left (nothing 0 0) rec room out
-deliveredBy s rec room out second (Body.RelayTag t) = left (nothing 0 0) rec room out
-deliveredBy s rec room out second (Body.NewToken x t) = left (nothing 0 0) rec room out
-deliveredBy s rec room out second (Body.PathChallenge p) = left (nothing 0 0) rec room out
-deliveredBy s rec room out second (Body.PathResponse p) = left (nothing 0 0) rec room out
-deliveredBy s rec room out second (Body.FirstPacketNumber n) = left (nothing 0 0) rec room out
-deliveredBy s rec room out second (Body.Congestion f) = left (nothing 0 0) rec room out
-deliveredBy s rec room out second (Body.Padding p) = left (nothing 0 0) rec room out
-deliveredBy s rec room out second (Body.Opaque k p) = left (nothing 0 0) rec room out
+-- a block that was read at a place
+unfoldable pub deliveredBy : List ℕ → ℕ → List ℕ → List ℕ → List ℕ → ℕ → Block → Left
+deliveredBy s at rec room out second (Body.I2np k i x p) = left (wholeAt k i x p) rec room out
+deliveredBy s at rec room out second (Body.FirstFragment k i x p) =
+    rebuilt at (firstCall rec room out (record { id = i; number = 0; last = false; kind = k; expires = x }) second (part s (p .start) (p .len))) i
+deliveredBy s at rec room out second (Body.FollowOnFragment n l i p) =
+    rebuilt at (followOnCall rec room out (record { id = i; number = n; last = l; kind = 0; expires = 0 }) second (part s (p .start) (p .len))) i
+deliveredBy s at rec room out second (Body.DateTime t) = left (nothing 0 0) rec room out
+deliveredBy s at rec room out second (Body.Options a b c d e f g h) = left (nothing 0 0) rec room out
+deliveredBy s at rec room out second (Body.RouterInfo f g p) = left (nothing 0 0) rec room out
+deliveredBy s at rec room out second (Body.Termination n r) = left (nothing 0 0) rec room out
+deliveredBy s at rec room out second (Body.Ack t n p) = left (nothing 0 0) rec room out
+deliveredBy s at rec room out second (Body.Address o p) = left (nothing 0 0) rec room out
+deliveredBy s at rec room out second Body.RelayTagRequest = left (nothing 0 0) rec room out
+deliveredBy s at rec room out second (Body.RelayTag t) = left (nothing 0 0) rec room out
+deliveredBy s at rec room out second (Body.NewToken x t) = left (nothing 0 0) rec room out
+deliveredBy s at rec room out second (Body.PathChallenge p) = left (nothing 0 0) rec room out
+deliveredBy s at rec room out second (Body.PathResponse p) = left (nothing 0 0) rec room out
+deliveredBy s at rec room out second (Body.FirstPacketNumber n) = left (nothing 0 0) rec room out
+deliveredBy s at rec room out second (Body.Congestion f) = left (nothing 0 0) rec room out
+deliveredBy s at rec room out second (Body.Padding p) = left (nothing 0 0) rec room out
+deliveredBy s at rec room out second (Body.Opaque k p) = left (nothing 0 0) rec room out
 
 -- a block, or its refusal
-unfoldable pub delivered : List ℕ → List ℕ → List ℕ → List ℕ → ℕ → Read → Left
-delivered s rec room out second (Got.Block b size next) = deliveredBy s rec room out second b
-delivered s rec room out second (Got.Refused number place) = left (nothing number place) rec room out
+unfoldable pub delivered : List ℕ → ℕ → List ℕ → List ℕ → List ℕ → ℕ → Read → Left
+delivered s at rec room out second (Got.Block b size next) = deliveredBy s at rec room out second b
+delivered s at rec room out second (Got.Refused number place) = left (nothing number place) rec room out
 
 -- the bytes of the message that was received; none where none was
 unfoldable pub messageIn : List ℕ → List ℕ → Received → List ℕ

@@ -1,24 +1,33 @@
 -- What is received, said of the store: a fragment delivers exactly the message that the store's step brings out, and nothing else.
 use mathlib.Core.Path.{_≡_}
-use mathlib.Core.Bool.{Bool}
+use mathlib.Core.Bool.{Bool, cond}
 use mathlib.Core.List.{List, []}
 use mathlib.Core.Option.{Option, none, some}
 use Prim.Native.Nat.{ℕ, _<_}
+use lib.Dec.{eqb}
 use lib.ListN.{length}
 use Rattle.wire.specs.Parts.{part}
 use Rattle.blocks.specs.declared.Part.{Part}
 use Rattle.blocks.specs.declared.Block.the-variants as Body
 use Rattle.reassembly.specs.Store.{first, follow, Whole, Answer, step}
-use Rattle.reassembly.specs.Stands.{stands, Made}
-use Rattle.messages.specs.Delivery.{Left, deliveredBy, messageIn}
+use Rattle.reassembly.specs.Stands.{stands, Made, laidOut}
+use Rattle.messages.specs.declared.Received.{Received}
+use Rattle.messages.specs.Delivery.{Left, nothing, deliveredBy, messageIn}
 
 -- the bytes of what the store brings out
 unfoldable pub outBytes : Option Whole → List ℕ
 outBytes none = []
 outBytes (some w) = w .bytes
 
--- what a fragment's block left is the store's answer to its piece
-pub record OfStore (s : List ℕ) (x : Left) (a : Answer) : Type 0 where
+-- what is received by the piece of message id that the block at a place has, where the store answers n, and brings a message out or none
+unfoldable pub receivedFor : ℕ → ℕ → ℕ → Option Whole → Received
+receivedFor at id n none = cond (eqb n 0) (nothing 0 0) (nothing n at)
+receivedFor at id n (some w) = record { number = n; from = 2; kind = w .typ; id = id; expires = w .expires; start = 0; length = length (w .bytes) }
+
+-- what a fragment's block at a place left of a payload and an assembly buffer is the store's answer to its piece
+pub record OfStore (s : List ℕ) (at id : ℕ) (out : List ℕ) (x : Left) (a : Answer) : Type 0 where
+  pub received : x .received ≡ receivedFor at id (a .number) (a .out)
+  pub buffer : x .out ≡ laidOut out (a .out)
   pub number : x .received .number ≡ a .number
   pub message : messageIn s (x .out) (x .received) ≡ outBytes (a .out)
   pub store : stands (x .rec) (x .room) ≡ a .store
@@ -26,10 +35,10 @@ pub record OfStore (s : List ℕ) (x : Left) (a : Answer) : Type 0 where
 
 abbrev pub FirstOfStore : Type 0
 FirstOfStore =
-    (s rec room out : List ℕ) (second k i x : ℕ) (p : Part) → Made rec room → i < 4294967296 → x < 4294967296 → second < 18446744073709551616
-    → OfStore s (deliveredBy s rec room out second (Body.FirstFragment k i x p)) (step (length out) (stands rec room) (first i k x (part s (p .start) (p .len))) second)
+    (s : List ℕ) (at : ℕ) (rec room out : List ℕ) (second k i x : ℕ) (p : Part) → Made rec room → i < 4294967296 → x < 4294967296 → second < 18446744073709551616
+    → OfStore s at i out (deliveredBy s at rec room out second (Body.FirstFragment k i x p)) (step (length out) (stands rec room) (first i k x (part s (p .start) (p .len))) second)
 
 abbrev pub FollowOfStore : Type 0
 FollowOfStore =
-    (s rec room out : List ℕ) (second n : ℕ) (l : Bool) (i : ℕ) (p : Part) → Made rec room → i < 4294967296 → second < 18446744073709551616
-    → OfStore s (deliveredBy s rec room out second (Body.FollowOnFragment n l i p)) (step (length out) (stands rec room) (follow i n l (part s (p .start) (p .len))) second)
+    (s : List ℕ) (at : ℕ) (rec room out : List ℕ) (second n : ℕ) (l : Bool) (i : ℕ) (p : Part) → Made rec room → i < 4294967296 → second < 18446744073709551616
+    → OfStore s at i out (deliveredBy s at rec room out second (Body.FollowOnFragment n l i p)) (step (length out) (stands rec room) (follow i n l (part s (p .start) (p .len))) second)

@@ -49,9 +49,9 @@ fn whole_at(kind: u8, id: u32, expires: u32, bytes: Part) -> Received
     }
 }
 
-// What the store's reply to a piece delivers.
-fn rebuilt_by(r: Reply, id: u32) -> Received
-    ensures { λ x. ⌜ x ≡ rebuiltBy r id ⌝ }
+// What the store's reply to the piece of the block at a place delivers.
+fn rebuilt_by(at: usize, r: Reply, id: u32) -> Received
+    ensures { λ x. ⌜ x ≡ rebuiltBy at r id ⌝ }
 {
     if r.number == 60 {
         return Received {
@@ -64,7 +64,10 @@ fn rebuilt_by(r: Reply, id: u32) -> Received
             length: r.length,
         };
     }
-    nothing(r.number as u32, 0)
+    if r.number == 0 {
+        return nothing(0, 0);
+    }
+    nothing(r.number as u32, at)
 }
 
 // The part of a slice from a place on, as far as it is there.
@@ -83,13 +86,14 @@ fn shown(b: &[u8], start: usize, len: usize) -> &[u8]
 
 fn deliver(
     payload: &[u8],
+    at: usize,
     block: Block,
     rec: &mut [u8],
     room: &mut [u8],
     out: &mut [u8],
     second: u64,
 ) -> Received
-    ensures { λ r. ⌜ left r (now (rec .exit)) (now (room .exit)) (now (out .exit)) ≡ deliveredBy (now (payload .entry)) (now (rec .entry)) (now (room .entry)) (now (out .entry)) second block ⌝ }
+    ensures { λ r. ⌜ left r (now (rec .exit)) (now (room .exit)) (now (out .exit)) ≡ deliveredBy (now (payload .entry)) at (now (rec .entry)) (now (room .entry)) (now (out .entry)) second block ⌝ }
 {
     match block {
         Block::I2np {
@@ -106,7 +110,7 @@ fn deliver(
         } => {
             let piece = shown(payload, bytes.start, bytes.len);
             let r = store::first_fragment(rec, room, out, id, kind, expiration, second, piece);
-            rebuilt_by(r, id)
+            rebuilt_by(at, r, id)
         }
         Block::FollowOnFragment {
             number,
@@ -116,7 +120,7 @@ fn deliver(
         } => {
             let piece = shown(payload, bytes.start, bytes.len);
             let r = store::follow_on_fragment(rec, room, out, id, number, last, second, piece);
-            rebuilt_by(r, id)
+            rebuilt_by(at, r, id)
         }
         _ => nothing(0, 0),
     }
@@ -131,14 +135,14 @@ pub fn receive(
     out: &mut [u8],
     second: u64,
 ) -> Received
-    ensures { λ r. ⌜ left r (now (rec .exit)) (now (room .exit)) (now (out .exit)) ≡ delivered (now (payload .entry)) (now (rec .entry)) (now (room .entry)) (now (out .entry)) second (readAt (now (payload .entry)) at) ⌝ }
+    ensures { λ r. ⌜ left r (now (rec .exit)) (now (room .exit)) (now (out .exit)) ≡ delivered (now (payload .entry)) at (now (rec .entry)) (now (room .entry)) (now (out .entry)) second (readAt (now (payload .entry)) at) ⌝ }
 {
     match reader::read_block(payload, at) {
         Read::Block {
             block,
             size: _,
             next: _,
-        } => deliver(payload, block, rec, room, out, second),
+        } => deliver(payload, at, block, rec, room, out, second),
         Read::Refused { number, place } => nothing(number, place),
     }
 }

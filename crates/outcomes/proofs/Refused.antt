@@ -71,6 +71,11 @@ delivery-number r = go (refused r)
     go true = refl
     go false = refl
 
+-- and its value, refused, the place of what was received
+pub delivery-place : (r : Received) → (r .number ≡ 0 → ⊥) → (r .number ≡ 60 → ⊥) → deliveryOutcome r .value ≡ r .start
+unfolding deliveryOutcome
+delivery-place r kept done = rw (ne-eqb (r .number) 0 kept, ne-eqb (r .number) 60 done)
+
 pub told-stays : (r : Received) (told : List ℕ) → (r .number ≡ 0 → ⊥) → (r .number ≡ 60 → ⊥) → deliveryNumbers r told ≡ told
 unfolding deliveryNumbers
 told-stays r told kept done = rw (ne-eqb (r .number) 0 kept, ne-eqb (r .number) 60 done)

@@ -23,4 +23,4 @@ deliveryNumbers r told = cond (refused r) told (r .from ∷ r .kind ∷ r .id �
 
 -- what the block at a place of a payload delivers, and leaves
 abbrev pub deliveredAt : List ℕ → ℕ → List ℕ → List ℕ → List ℕ → ℕ → Left
-deliveredAt s at rec room out second = delivered s rec room out second (readAt s at)
+deliveredAt s at rec room out second = delivered s at rec room out second (readAt s at)

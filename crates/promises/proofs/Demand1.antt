@@ -7,7 +7,6 @@ use lib.ListN.{length}
 use types.Run.{OneOf}
 use Rattle.header.proofs.Calls.{write-refused}
 use Rattle.header.proofs.Refused as Header
-use Rattle.blocks.specs.Reading.{readAt}
 use Rattle.blocks.proofs.Refused as Blocks
 use Rattle.listing.proofs.Refused as Listing
 use Rattle.acks.proofs.Refused as Acks
@@ -56,7 +55,7 @@ demand1 =
         stays rec room out (followOnCall rec room out l second v) (careful-follow-on rec room out l second v) h,
       );
       delivery = λ s at rec room out second h. (
-        others 1 (2 ∷ 3 ∷ 4 ∷ 5 ∷ 6 ∷ 7 ∷ 8 ∷ 9 ∷ 50 ∷ 51 ∷ 52 ∷ 53 ∷ 54 ∷ 55 ∷ 56 ∷ 59 ∷ []) _ h (Messages.delivery-numbers s rec room out second at),
-        Messages.delivery-stays s rec room out second (readAt s at) (h .0) (h .1),
+        others 1 (2 ∷ 3 ∷ 4 ∷ 5 ∷ 6 ∷ 7 ∷ 8 ∷ 9 ∷ 50 ∷ 51 ∷ 52 ∷ 53 ∷ 54 ∷ 55 ∷ 56 ∷ 59 ∷ []) _ h (Messages.delivery-numbers s at rec room out second),
+        Messages.delivery-stays s at rec room out second (h .0) (h .1),
       );
     }

@@ -162,11 +162,11 @@ module _ (rec room out : List ℕ) (long : isShort rec room ≡ false) (second :
       (store-refusal (followOnCall rec room out label second (7 ∷ []) .reply .number) 50 no-number (omega arith)) .1
 
   -- (d), delivered
-  pub no-delivery : delivered bad-address rec room out second (readAt bad-address 0) .received .number ≡ 8
+  pub no-delivery : delivered bad-address 0 rec room out second (readAt bad-address 0) .received .number ≡ 8
   unfolding delivered nothing readAt extentAt takenAt address bigAt big little part
   no-delivery = refl
 
-  pub delivery-stays : delivered bad-address rec room out second (readAt bad-address 0) ≡ left (delivered bad-address rec room out second (readAt bad-address 0) .received) rec room out
+  pub delivery-stays : delivered bad-address 0 rec room out second (readAt bad-address 0) ≡ left (nothing (delivered bad-address 0 rec room out second (readAt bad-address 0) .received .number) 0) rec room out
   delivery-stays =
       demand1 .delivery bad-address 0 rec room out second
-      (store-refusal (delivered bad-address rec room out second (readAt bad-address 0) .received .number) 7 no-delivery (omega arith)) .1
+      (store-refusal (delivered bad-address 0 rec room out second (readAt bad-address 0) .received .number) 7 no-delivery (omega arith)) .1

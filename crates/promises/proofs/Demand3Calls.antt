@@ -4,14 +4,14 @@ use mathlib.Core.List.{List, [], _∷_, map}
 use Prim.Native.Nat.{ℕ, zero, suc, _<_}
 use lib.Dec.{eqb}
 use lib.ListN.{length, getD}
-use Rattle.reassembly.specs.Store.{Piece, first, follow, Store, empty, step}
+use Rattle.reassembly.specs.Store.{Piece, first, follow, Store, step}
 use Rattle.reassembly.specs.Calls.{renewed}
 use Rattle.reassembly.specs.Stands.{stands, Made, Agrees, laidOut}
 use Rattle.reassembly.proofs.Steps.{Fits, first-agrees, follow-agrees}
-use Rattle.reassembly.proofs.Sweeps.{new-stands, new-made}
+use Rattle.reassembly.proofs.Sweeps.{new-stands, new-made, zeros-stand, zeros-made}
 use Rattle.reassembly.proofs.Agreed.{fits-first, fits-follow, sweep-agrees}
 use Rattle.promises.specs.Demand3.{Cut, pieceOf, noCut, Event, deliver, tidy, start, due, times, act, saidOf, said, final, Outcome}
-use Rattle.promises.specs.Demand3Calls.{pieceCall, called, calls, lastly, replyDue, buffersDue, secondOf, Demand3Calls}
+use Rattle.promises.specs.Demand3Calls.{pieceCall, called, calls, lastly, replyDue, buffersDue, secondOf, Demand3Calls, Starts, Demand3Again, Demand3New}
 use Rattle.promises.proofs.Demand3.{demand3}
 
 piece-agrees : (rec room out : List ℕ) → Made rec room → (p : Piece) (second : ℕ) → Fits p second → Agrees out (pieceCall rec room out p second) (step (length out) (stands rec room) p second)
@@ -40,11 +40,12 @@ module _ (cap : ℕ) (outs : ℕ → List ℕ) (long : (n : ℕ) → length (out
       → (map (λ x. x .reply) (calls cs outs n rec room es) ≡ map replyDue (said cap cs (stands rec room) es))
       × (map (λ x. x .out) (calls cs outs n rec room es) ≡ buffersDue outs n (said cap cs (stands rec room) es))
       × (stands (lastly cs outs n rec room es .rec) (lastly cs outs n rec room es .room) ≡ final cap cs (stands rec room) es)
-  runs [] n rec room m hs = (refl, refl, refl)
+      × Made (lastly cs outs n rec room es .rec) (lastly cs outs n rec room es .room)
+  runs [] n rec room m hs = (refl, refl, refl, m)
   runs (e ∷ es) n rec room m hs =
       let a : Agrees (outs n) (called cs rec room (outs n) e) (act cap cs (stands rec room) e) = event-at n rec room m e (hs 0) in
       let ih = runs es (suc n) (called cs rec room (outs n) e .rec) (called cs rec room (outs n) e .room) (a .made) (λ k. hs (suc k)) in
-      (rw (reply-is e rec room a, ih .0, a .store) refl, rw (out-is e rec room a, ih .1, a .store) refl, ih .2 ∙ ap (λ (s : Store). final cap cs s es) (a .store))
+      (rw (reply-is e rec room a, ih .0, a .store) refl, rw (out-is e rec room a, ih .1, a .store) refl, ih .2 ∙ ap (λ (s : Store). final cap cs s es) (a .store), ih .3)
     where
       reply-is : (e : Event) (rec room : List ℕ) → Agrees (outs n) (called cs rec room (outs n) e) (act cap cs (stands rec room) e)
           → called cs rec room (outs n) e .reply ≡ replyDue (saidOf (act cap cs (stands rec room) e))
@@ -56,15 +57,28 @@ module _ (cap : ℕ) (outs : ℕ → List ℕ) (long : (n : ℕ) → length (out
 
 -- Demand 3, of the calls
 pub demand3-calls : Demand3Calls
-demand3-calls cap hc outs long rec room lr lm cs within es narrow q =
+demand3-calls cap hc outs long rec room m z cs within es narrow q =
     let o : Outcome cap cs es = demand3 cap hc cs within es q in
-    let m : Made (renewed rec) room = new-made rec room lr lm in
-    let z : stands (renewed rec) room ≡ empty = new-stands rec room lr lm in
-    let r = runs cap outs long cs (narrow .ids) (narrow .expirations) es 0 (renewed rec) room m (narrow .seconds) in
-    let d : said cap cs (stands (renewed rec) room) es ≡ due cs (start cs) es = ap (λ (s : Store). said cap cs s es) z ∙ o .as-due in
+    let r = runs cap outs long cs (narrow .ids) (narrow .expirations) es 0 rec room m (narrow .seconds) in
+    let d : said cap cs (stands rec room) es ≡ due cs (start cs) es = ap (λ (s : Store). said cap cs s es) z ∙ o .as-due in
     record {
       replies = r .0 ∙ ap (map replyDue) d;
       buffers = r .1 ∙ ap (buffersDue outs 0) d;
       once = λ c h. ap (times c es) (sym (o .as-due)) ∙ o .once c h;
       ends-empty = r .2 ∙ ap (λ (s : Store). final cap cs s es) z ∙ o .ends-empty;
+      made = r .3;
     }
+
+-- and where it starts
+pub starts : Starts
+starts =
+    record {
+      new = λ rec room lr lm. (new-made rec room lr lm, new-stands rec room lr lm);
+      zero-filled = λ n room lr lm. (zeros-made n room lr lm, zeros-stand n room lr lm);
+    }
+
+pub demand3-again : Demand3Again
+demand3-again cap outs outs′ hc long rec room cs es o ds within fs narrow q = demand3-calls cap hc outs′ long _ _ (o .made) (o .ends-empty) ds within fs narrow q
+
+pub demand3-new : Demand3New
+demand3-new cap outs hc long rec room lr lm = demand3-calls cap hc outs long (renewed rec) room (starts .new rec room lr lm .0) (starts .new rec room lr lm .1)

@@ -7,16 +7,24 @@ use Prim.Native.Nat.{ℕ, zero, suc, _+_, _<_, _≤_}
 use native.Mathlib.Nat.{not-suc-le-zero}
 use native.Mathlib.Omega.{arith}
 use native.Mathlib.Decide.{ℕ-discrete}
-use lib.ListN.{length, getD, List·getD-eq-default}
+use lib.ListN.{length, getD, replicate, List·getD-eq-default}
 use lib.Dec.{eqb, ltb, leb}
 use borrow.Author.Tests.{ltb-true, ltb-false, leb-true, eqb-true, eq-eqb, not-true}
-use Rattle.wire.specs.Parts.{same}
+use Rattle.wire.specs.Parts.{part, splice, same}
+use Rattle.wire.specs.Numbers.{little, big, bigAt}
 use Rattle.wire.proofs.Tests.{and-both}
-use Rattle.reassembly.specs.Store.{empty, total, idOf, numberOf, finalOf, bytesOf, findId, findFree, placeOf, messageOr, plus, badLength, badNumber, repeats, clashes, tooMuch, complete, wholeOf, tooShort, refused, answer, step, sweptOne, sweep}
-use Rattle.promises.specs.Demand3.{Cut, Within, noCut, Event, deliver, tidy, Tally, noTally, begun, done, isOpen, marked, untouched, start, note, count, Allowed, Orderly, Schedule, act, saidOf, said, Outcome}
-use Rattle.promises.specs.Demand3Calls.{secondOf, OutcomeOfCalls}
+use Rattle.blocks.specs.Extent.{listed, firstFragment, takenAt, extentAt}
+use Rattle.blocks.specs.Reading.{bytesAt, blockAt, readAt}
+use Rattle.blocks.specs.Writing.{roomAfter}
+use Rattle.reassembly.specs.Store.{first, empty, total, idOf, numberOf, finalOf, bytesOf, findId, findFree, placeOf, messageOr, plus, badLength, badNumber, repeats, clashes, tooMuch, complete, wholeOf, tooShort, refused, answer, step, sweptOne, sweep}
+use Rattle.reassembly.specs.Stands.{stands, Made, laidOut}
+use Rattle.outcomes.specs.Outcomes.{outcome}
+use Rattle.promises.specs.Demand3.{Cut, Within, pieceOf, cutFrom, noCut, Event, deliver, tidy, Tally, noTally, begun, done, isOpen, marked, untouched, start, note, count, Allowed, Orderly, Schedule, dueOne, act, saidOf, said, Outcome}
+use Rattle.promises.specs.Demand3Calls.{secondOf, Narrow, lastly, OutcomeOfCalls}
+use Rattle.promises.specs.Demand3Deliveries.{Carries, Loan, Handed, Tells, tellings, outcomeDue, numbersOf, toldDue, tellsDue, OutcomeOfDeliveries, blockOf, bodyOf}
 use Rattle.promises.proofs.Demand3.{demand3}
-use Rattle.promises.proofs.Demand3Calls.{demand3-calls}
+use Rattle.promises.proofs.Demand3Calls.{demand3-calls, starts}
+use Rattle.promises.proofs.Demand3Deliveries.{demand3-deliveries, written-is-handed}
 
 -- Tests that compute: whether cuts are within the limits, and whether a schedule keeps the rules
 abbrev allBelow : ℕ → (ℕ → Bool) → Bool
@@ -157,7 +165,25 @@ pub example-said :
 unfolding act saidOf step answer placeOf findId findFree messageOr plus badLength badNumber repeats clashes tooMuch complete wholeOf tooShort refused idOf numberOf finalOf bytesOf sweep sweptOne same
 example-said = refl
 
--- The same schedule, delivered to the calls: it meets every premise, with any record, room and assembly buffers of the lent lengths.
+-- Without its premises demand 3 would be false. Two open messages with one id: the second's first piece is a 55, where 0 would be due;
+abbrev oneId : List Cut
+oneId =
+    record { id = 7; typ = 20; expires = 900; pieces = (1 ∷ []) ∷ (2 ∷ []) ∷ [] }
+    ∷ record { id = 7; typ = 1; expires = 900; pieces = (3 ∷ []) ∷ (4 ∷ []) ∷ [] }
+    ∷ []
+
+pub one-id-said : said 65535 oneId empty (deliver 0 0 100 ∷ deliver 1 0 101 ∷ []) ≡ record { number = 0; out = none } ∷ record { number = 55; out = none } ∷ []
+unfolding act saidOf step answer placeOf findId findFree messageOr plus badLength badNumber repeats clashes tooMuch complete wholeOf tooShort refused idOf numberOf finalOf bytesOf same
+one-id-said = refl
+
+-- a piece that comes again after its message came out: it is kept, where 54 would be due.
+pub came-out-said :
+    said 65535 oneId empty (deliver 0 0 100 ∷ deliver 0 1 101 ∷ deliver 0 1 102 ∷ [])
+    ≡ record { number = 0; out = none } ∷ record { number = 60; out = some (record { typ = 20; expires = 900; bytes = 1 ∷ 2 ∷ [] }) } ∷ record { number = 0; out = none } ∷ []
+unfolding act saidOf step answer placeOf findId findFree messageOr plus badLength badNumber repeats clashes tooMuch complete wholeOf tooShort refused idOf numberOf finalOf bytesOf same
+came-out-said = refl
+
+-- The same schedule, delivered to the calls: it meets every premise, on every record and room that calls made and that stand for the empty store, with any assembly buffers of the lent length.
 ids-narrow : (c : ℕ) → getD threeCuts c noCut .id < 4294967296
 ids-narrow zero = omega arith
 ids-narrow (suc zero) = omega arith
@@ -180,7 +206,89 @@ early-at [] h n = omega arith
 early-at (e ∷ es) h zero = ltb-true (secondOf e) 18446744073709551616 (and-both (ltb (secondOf e) 18446744073709551616) (allEarly es) h .0)
 early-at (e ∷ es) h (suc n) = early-at es (and-both (ltb (secondOf e) 18446744073709551616) (allEarly es) h .1) n
 
-pub example-calls : (outs : ℕ → List ℕ) → ((n : ℕ) → length (outs n) ≡ 65535) → (rec room : List ℕ) → 8576 ≤ length rec → 1048560 ≤ length room → OutcomeOfCalls threeCuts outs rec room mixture
-example-calls outs long rec room lr lm =
-    demand3-calls 65535 (omega arith) outs long rec room lr lm threeCuts within-limits mixture
-    (record { ids = ids-narrow; expirations = expirations-narrow; seconds = early-at mixture refl }) keeps-rules
+narrow : Narrow threeCuts mixture
+narrow = record { ids = ids-narrow; expirations = expirations-narrow; seconds = early-at mixture refl }
+
+pub example-calls : (outs : ℕ → List ℕ) → ((n : ℕ) → length (outs n) ≡ 65535) → (rec room : List ℕ) → Made rec room → stands rec room ≡ empty → OutcomeOfCalls threeCuts outs rec room mixture
+example-calls outs long rec room m z =
+    demand3-calls 65535 (omega arith) outs long rec room m z threeCuts within-limits mixture narrow keeps-rules
+
+-- on a record of zeros, and once more on what that left
+module _ (outs : ℕ → List ℕ) (long : (n : ℕ) → length (outs n) ≡ 65535) (n : ℕ) (room : List ℕ) (lr : 8576 ≤ n) (lm : 1048560 ≤ length room) where
+  pub example-zeros : OutcomeOfCalls threeCuts outs (replicate n 0) room mixture
+  example-zeros = example-calls outs long (replicate n 0) room (starts .zero-filled n room lr lm .0) (starts .zero-filled n room lr lm .1)
+
+  pub example-again :
+      OutcomeOfCalls threeCuts outs (lastly threeCuts outs 0 (replicate n 0) room mixture .rec) (lastly threeCuts outs 0 (replicate n 0) room mixture .room) mixture
+  example-again = example-calls outs long _ _ (example-zeros .made) (example-zeros .ends-empty)
+
+-- six numbers and nothing else
+abbrev told-of : List ℕ → Tells
+told-of told = record { outcome = outcome 0 0; out = []; told = told }
+
+-- The same schedule as blocks of payloads: each piece as the block writer leaves it in some room of 1,512 bytes or more; the repeat behind another block, at place 3.
+module _ (space : List ℕ) (wide : 1512 ≤ length space) where
+  abbrev sent : ℕ → ℕ → List ℕ
+  sent c i = roomAfter (blockOf (pieceOf (getD threeCuts c noCut) i)) (bodyOf (pieceOf (getD threeCuts c noCut) i)) space
+
+  is-sent : (c i : ℕ) → c < 3 → listed (getD threeCuts c noCut .typ) ≡ true → i < length (getD threeCuts c noCut .pieces) → Carries (sent c i) 0 (pieceOf (getD threeCuts c noCut) i)
+  is-sent c i h l k = written-is-handed (getD threeCuts c noCut) (within-limits c h) l (ids-narrow c) (expirations-narrow c) i k space wide
+
+  abbrev behind : List ℕ
+  behind = 15 ∷ 0 ∷ 0 ∷ 4 ∷ 0 ∷ 11 ∷ 20 ∷ 0 ∷ 0 ∷ 0 ∷ 7 ∷ 0 ∷ 0 ∷ 3 ∷ 132 ∷ 1 ∷ 2 ∷ []
+
+  is-behind : Carries behind 3 (first 7 20 900 (1 ∷ 2 ∷ []))
+  unfolding readAt blockAt extentAt takenAt firstFragment listed bigAt big little part
+  is-behind = record { body = bytesAt 15 2; size = 11; next = 17; read = refl; same-bytes = refl }
+
+  abbrev payloads : List (List ℕ)
+  payloads = sent 0 0 ∷ sent 0 2 ∷ sent 1 1 ∷ behind ∷ [] ∷ sent 0 1 ∷ sent 2 0 ∷ [] ∷ sent 1 0 ∷ sent 2 1 ∷ []
+
+  module _ (outs : ℕ → List ℕ) (long : (n : ℕ) → length (outs n) ≡ 65535) (numbers : ℕ → List ℕ) where
+    abbrev loans : ℕ → Loan
+    loans n = record { payload = getD payloads n []; at = getD (0 ∷ 0 ∷ 0 ∷ 3 ∷ []) n 0; out = outs n; told = numbers n }
+
+    all-sent : Handed threeCuts loans 0 mixture
+    unfolding listed
+    all-sent = (
+      is-sent 0 0 (omega arith) refl (omega arith),
+      (
+        is-sent 0 2 (omega arith) refl (omega arith),
+        (
+          is-sent 1 1 (omega arith) refl (omega arith),
+          (
+            is-behind,
+            (
+              tt,
+              (
+                is-sent 0 1 (omega arith) refl (omega arith),
+                (
+                  is-sent 2 0 (omega arith) refl (omega arith),
+                  (
+                    tt,
+                    (
+                      is-sent 1 0 (omega arith) refl (omega arith),
+                      (is-sent 2 1 (omega arith) refl (omega arith), tt),
+                    ),
+                  ),
+                ),
+              ),
+            ),
+          ),
+        ),
+      ),
+    )
+
+    pub example-deliveries : (rec room : List ℕ) → Made rec room → stands rec room ≡ empty → OutcomeOfDeliveries threeCuts loans rec room mixture
+    example-deliveries rec room m z =
+        demand3-deliveries 65535 (omega arith) loans long rec room m z threeCuts within-limits mixture narrow all-sent keeps-rules
+
+    -- and what the repeat and the sixth call, which finishes the first message, are told
+    pub example-told :
+        (rec room : List ℕ) → Made rec room → stands rec room ≡ empty
+        → (getD (tellings loans 0 rec room mixture) 3 (told-of []) ≡ record { outcome = outcome 54 3; out = outs 3; told = numbers 3 })
+        × (getD (tellings loans 0 rec room mixture) 5 (told-of []) ≡ record { outcome = outcome 60 0; out = splice (outs 5) 0 (1 ∷ 2 ∷ 3 ∷ 4 ∷ 5 ∷ []); told = 2 ∷ 20 ∷ 7 ∷ 900 ∷ 0 ∷ 5 ∷ [] })
+    unfolding tellsDue outcomeDue toldDue numbersOf laidOut dueOne cutFrom start untouched note marked begun done isOpen
+    example-told rec room m z =
+        let t = example-deliveries rec room m z .tells in
+        (ap (λ (l : List Tells). getD l 3 (told-of [])) t, ap (λ (l : List Tells). getD l 5 (told-of [])) t)

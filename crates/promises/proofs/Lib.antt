@@ -14,4 +14,5 @@ pub mod Demand3Places
 pub mod Demand3Invariant
 pub mod Demand3
 pub mod Demand3Calls
+pub mod Demand3Deliveries
 pub mod Demand3Example

@@ -1,6 +1,6 @@
 -- Demand 1: bad input gets document 01's numbered refusal, and a refusal leaves state and lent buffers as they were.
--- Every contract of a public call is an equation with the definitions below, on all inputs and with no `requires`: what is said of them is said of every call.
--- The sweep answers 0 always; who asks a tracker or reads a block lends nothing that could change.
+-- The contracts of the calls that refuse are equations with the definitions below, over C with those of specs/Demand1Calls.antt too, on all inputs and with no `requires`: what is said of the definitions is said of the calls.
+-- The sweep answers 0 always. Who asks a tracker or reads a block lends nothing that could change; over C he lends numbers for the answer, and specs/Demand1Calls.antt says that a refusal leaves them.
 --
 -- 01's useless builds, and the promise that each of them breaks:
 --   a reader that refuses everything: header `WrittenIsRead`, blocks `WriteThenRead`: what the writers take is read; `Twelve` (a), (c), (e)
@@ -35,7 +35,7 @@ use Rattle.acks.specs.AckBlocks.{ackWriting, ackRoom}
 use Rattle.acks.specs.Expanding.{expandOf, listAfter}
 use Rattle.reassembly.specs.declared.Label.{Label}
 use Rattle.reassembly.specs.Calls.{After, after, firstCall, followOnCall, renewal, renewed}
-use Rattle.messages.specs.Delivery.{left, delivered}
+use Rattle.messages.specs.Delivery.{left, nothing, delivered}
 
 -- An answer that is a number refuses where it is not 0; the store's where it is not 60 either, a finished message.
 abbrev pub Refuses : ℕ → Type 0
@@ -125,12 +125,12 @@ FollowOnTaken =
     (rec room out : List ℕ) (l : Label) (second : ℕ) (v : List ℕ) → StoreRefuses (followOnCall rec room out l second v .reply .number)
     → StoreStays (50 ∷ 51 ∷ 52 ∷ 53 ∷ 54 ∷ 55 ∷ 56 ∷ 59 ∷ []) rec room out (followOnCall rec room out l second v)
 
--- delivering the block at a place: the block's refusals or its piece's, and record, room and assembly buffer stay
+-- delivering the block at a place: the block's refusals or its piece's, all with the block's place, and record, room and assembly buffer stay
 abbrev pub Delivered : Type 0
 Delivered =
-    (s : List ℕ) (at : ℕ) (rec room out : List ℕ) (second : ℕ) → StoreRefuses (delivered s rec room out second (readAt s at) .received .number)
-    → OneOf (1 ∷ 2 ∷ 3 ∷ 4 ∷ 5 ∷ 6 ∷ 7 ∷ 8 ∷ 9 ∷ 50 ∷ 51 ∷ 52 ∷ 53 ∷ 54 ∷ 55 ∷ 56 ∷ 59 ∷ []) (delivered s rec room out second (readAt s at) .received .number)
-    × (delivered s rec room out second (readAt s at) ≡ left (delivered s rec room out second (readAt s at) .received) rec room out)
+    (s : List ℕ) (at : ℕ) (rec room out : List ℕ) (second : ℕ) → StoreRefuses (delivered s at rec room out second (readAt s at) .received .number)
+    → OneOf (1 ∷ 2 ∷ 3 ∷ 4 ∷ 5 ∷ 6 ∷ 7 ∷ 8 ∷ 9 ∷ 50 ∷ 51 ∷ 52 ∷ 53 ∷ 54 ∷ 55 ∷ 56 ∷ 59 ∷ []) (delivered s at rec room out second (readAt s at) .received .number)
+    × (delivered s at rec room out second (readAt s at) ≡ left (nothing (delivered s at rec room out second (readAt s at) .received .number) at) rec room out)
 
 -- Demand 1: a part for each kind of call
 pub record Demand1 : Type 0 where

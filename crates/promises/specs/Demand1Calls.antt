@@ -10,14 +10,13 @@ use Rattle.listing.specs.declared.Entry.{Entry}
 use Rattle.listing.specs.Listing.{Listing, answerOf, filled}
 use Rattle.acks.specs.declared.AckInfo.{AckInfo}
 use Rattle.acks.specs.AckBlocks.{ackWriting, ackRoom}
-use Rattle.messages.specs.declared.Received.{Received}
 use Rattle.outcomes.specs.Outcomes.{written, readOutcome}
 use Rattle.outcomes.specs.Listings.{outcome}
 use Rattle.numbers.specs.Headers.{answerNumber, answerNumbers}
 use Rattle.numbers.specs.BlockNumbers.{readNumbers}
 use Rattle.numbers.specs.BlockFields.{writingBy, roomBy}
 use Rattle.outcomes.specs.Trackers.{newAnswer, newRecord, reportNumbers, reportPairs}
-use Rattle.outcomes.specs.Deliveries.{deliveryOutcome, deliveryNumbers}
+use Rattle.outcomes.specs.Deliveries.{deliveryOutcome, deliveryNumbers, deliveredAt}
 use Rattle.promises.specs.Demand1.{Refuses, StoreRefuses}
 
 pub record Demand1Calls : Type 0 where
@@ -37,7 +36,9 @@ pub record Demand1Calls : Type 0 where
   pub report : (r : AckInfo) (out pairs : List ℕ) → Refuses (r .number) → (reportNumbers r out ≡ out) × (reportPairs r pairs ≡ pairs)
   -- strawhub_tracker_ack_block, its room
   pub ack-room : (r : AckInfo) (room : List ℕ) → Refuses (written (ackWriting r (length room)) .number) → ackRoom r room ≡ room
-  -- strawhub_block_deliver, its six numbers; its number is that of what was received
+  -- strawhub_block_deliver: the number is that of what was received, the value the block's place, whether the block or the store refused; its six numbers
   pub told :
-      (r : Received) (told : List ℕ) → StoreRefuses (deliveryOutcome r .number)
-      → (deliveryOutcome r .number ≡ r .number) × (deliveryNumbers r told ≡ told)
+      (s : List ℕ) (at : ℕ) (rec room out : List ℕ) (second : ℕ) (told : List ℕ) → StoreRefuses (deliveryOutcome (deliveredAt s at rec room out second .received) .number)
+      → (deliveryOutcome (deliveredAt s at rec room out second .received) .number ≡ deliveredAt s at rec room out second .received .number)
+      × (deliveryOutcome (deliveredAt s at rec room out second .received) .value ≡ at)
+      × (deliveryNumbers (deliveredAt s at rec room out second .received) told ≡ told)

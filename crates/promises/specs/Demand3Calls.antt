@@ -3,11 +3,11 @@
 use mathlib.Core.Path.{_≡_}
 use mathlib.Core.List.{List, [], _∷_, map}
 use Prim.Native.Nat.{ℕ, suc, _≤_, _<_}
-use lib.ListN.{length, getD}
+use lib.ListN.{length, getD, replicate}
 use Rattle.reassembly.specs.declared.Reply.{Reply}
 use Rattle.reassembly.specs.Store.{Piece, first, follow, empty}
 use Rattle.reassembly.specs.Calls.{After, after, bare, firstCall, followOnCall, swept, renewed}
-use Rattle.reassembly.specs.Stands.{stands, labelOf, replyFor, laidOut}
+use Rattle.reassembly.specs.Stands.{stands, Made, labelOf, replyFor, laidOut}
 use Rattle.promises.specs.Demand3.{Cut, Within, pieceOf, noCut, Event, deliver, tidy, start, Schedule, Said, due, times}
 
 -- a piece arrives: the call for it, and what it leaves
@@ -49,19 +49,43 @@ pub record Narrow (cs : List Cut) (es : List Event) : Type 0 where
   pub expirations : (c : ℕ) → getD cs c noCut .expires < 4294967296
   pub seconds : (n : ℕ) → secondOf (getD es n (tidy 0)) < 18446744073709551616
 
--- Every call is answered as is due, leaves its assembly buffer as is due, every message came out once, and the record and the room stand for the empty store again.
+-- Every call is answered as is due, leaves its assembly buffer as is due, every message came out once, and the record and the room are again what calls made, and stand for the empty store.
 pub record OutcomeOfCalls (cs : List Cut) (outs : ℕ → List ℕ) (rec room : List ℕ) (es : List Event) : Type 0 where
-  pub replies : map (λ x. x .reply) (calls cs outs 0 (renewed rec) room es) ≡ map replyDue (due cs (start cs) es)
-  pub buffers : map (λ x. x .out) (calls cs outs 0 (renewed rec) room es) ≡ buffersDue outs 0 (due cs (start cs) es)
+  pub replies : map (λ x. x .reply) (calls cs outs 0 rec room es) ≡ map replyDue (due cs (start cs) es)
+  pub buffers : map (λ x. x .out) (calls cs outs 0 rec room es) ≡ buffersDue outs 0 (due cs (start cs) es)
   pub once : (c : ℕ) → c < length cs → times c es (due cs (start cs) es) ≡ 1
-  pub ends-empty : stands (lastly cs outs 0 (renewed rec) room es .rec) (lastly cs outs 0 (renewed rec) room es .room) ≡ empty
+  pub ends-empty : stands (lastly cs outs 0 rec room es .rec) (lastly cs outs 0 rec room es .room) ≡ empty
+  pub made : Made (lastly cs outs 0 rec room es .rec) (lastly cs outs 0 rec room es .room)
 
--- Demand 3, of the calls
+-- Demand 3, of the calls: on every record and room that calls made and that stand for the empty store
 abbrev pub Demand3Calls : Type 0
 Demand3Calls =
     (cap : ℕ) → 65535 ≤ cap
     → (outs : ℕ → List ℕ) → ((n : ℕ) → length (outs n) ≡ cap)
-    → (rec room : List ℕ) → 8576 ≤ length rec → 1048560 ≤ length room
+    → (rec room : List ℕ) → Made rec room → stands rec room ≡ empty
     → (cs : List Cut) → ((c : ℕ) → c < length cs → Within (getD cs c noCut))
     → (es : List Event) → Narrow cs es → Schedule cs (start cs) es
     → OutcomeOfCalls cs outs rec room es
+
+-- Records and rooms that meet its premises: a new record, and one of zeros, with any room of the lent length;
+pub record Starts : Type 0 where
+  pub new : (rec room : List ℕ) → 8576 ≤ length rec → 1048560 ≤ length room → Made (renewed rec) room × (stands (renewed rec) room ≡ empty)
+  pub zero-filled : (n : ℕ) (room : List ℕ) → 8576 ≤ n → 1048560 ≤ length room → Made (replicate n 0) room × (stands (replicate n 0) room ≡ empty)
+
+-- and what a schedule left: another may follow, with messages and assembly buffers of its own.
+abbrev pub Demand3Again : Type 0
+Demand3Again =
+    (cap : ℕ) (outs outs′ : ℕ → List ℕ) → 65535 ≤ cap → ((n : ℕ) → length (outs′ n) ≡ cap)
+    → (rec room : List ℕ) (cs : List Cut) (es : List Event) → OutcomeOfCalls cs outs rec room es
+    → (ds : List Cut) → ((c : ℕ) → c < length ds → Within (getD ds c noCut))
+    → (fs : List Event) → Narrow ds fs → Schedule ds (start ds) fs
+    → OutcomeOfCalls ds outs′ (lastly cs outs 0 rec room es .rec) (lastly cs outs 0 rec room es .room) fs
+
+-- Demand 3 of the calls that follow strawhub_store_new, whatever the record held
+abbrev pub Demand3New : Type 0
+Demand3New =
+    (cap : ℕ) (outs : ℕ → List ℕ) → 65535 ≤ cap → ((n : ℕ) → length (outs n) ≡ cap)
+    → (rec room : List ℕ) → 8576 ≤ length rec → 1048560 ≤ length room
+    → (cs : List Cut) → ((c : ℕ) → c < length cs → Within (getD cs c noCut))
+    → (es : List Event) → Narrow cs es → Schedule cs (start cs) es
+    → OutcomeOfCalls cs outs (renewed rec) room es

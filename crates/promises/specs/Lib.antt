@@ -7,3 +7,4 @@ pub mod Demand1Calls
 pub mod Demand2
 pub mod Demand3
 pub mod Demand3Calls
+pub mod Demand3Deliveries

@@ -11,7 +11,7 @@ use lib.Dec.{eqb, ltb, leb}
 use lib.ListN.{length, replicate, length-replicate}
 use borrow.Author.Tests.{lt-ltb, le-ltb, ltb-true, ltb-false}
 use Rattle.wire.specs.Parts.{part, splice}
-use Rattle.wire.proofs.Parts.{part-within, length-splice}
+use Rattle.wire.proofs.Parts.{part-within, length-splice, splice-all}
 use Rattle.wire.proofs.Slices.{part-alike}
 use Rattle.reassembly.specs.Store.{Message, Store, empty, sweptOne, sweep}
 use Rattle.reassembly.specs.Record.{headOf, headAt, withHead}
@@ -159,6 +159,20 @@ new-stands rec room lr lm = rw (le-ltb (length rec) 8576 lr) (blank-stands rec r
 pub new-made : (rec room : List ℕ) → 8576 ≤ length rec → 1048560 ≤ length room → Made (renewed rec) room
 unfolding renewed
 new-made rec room lr lm = rw (le-ltb (length rec) 8576 lr) (blank-made rec room 8576 lr lm (omega arith))
+
+-- a record of zeros is a new one
+zeros-blank : (n : ℕ) → splice {A = ℕ} (replicate n 0) 0 (replicate n 0) ≡ replicate n 0
+zeros-blank n = splice-all (replicate n 0) (replicate n 0) refl
+
+pub zeros-stand : (n : ℕ) (room : List ℕ) → 8576 ≤ n → 1048560 ≤ length room → stands (replicate n 0) room ≡ empty
+zeros-stand n room lr lm =
+    ap (λ (z : List ℕ). stands z room) (sym (zeros-blank n))
+    ∙ blank-stands (replicate n 0) room n (let w : length {A = ℕ} (replicate n 0) ≡ n = length-replicate {A = ℕ} n 0 in omega arith) lm lr
+
+pub zeros-made : (n : ℕ) (room : List ℕ) → 8576 ≤ n → 1048560 ≤ length room → Made (replicate n 0) room
+zeros-made n room lr lm =
+    subst (λ (z : List ℕ). Made z room) (zeros-blank n)
+    (blank-made (replicate n 0) room n (let w : length {A = ℕ} (replicate n 0) ≡ n = length-replicate {A = ℕ} n 0 in omega arith) lm lr)
 
 -- The promises of the calls, from the equations that they state.
 pub sweep-promise : (second : ℕ) (rec rec′ : List ℕ) → rec′ ≡ swept second rec → Swept second rec rec′

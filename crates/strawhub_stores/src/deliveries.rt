@@ -28,7 +28,7 @@ fn tell(r: Received, told: &mut [u64; 6]) -> Outcome
     }
 }
 
-// What the block at a place delivers: 0 and 60 with the message in told; or the block's refusal and place, or the store's refusal, and then nothing changes.
+// What the block at a place delivers: 0 and 60 with the message in told; or the block's refusal or the store's, with the block's place, and then nothing changes.
 #[no_mangle]
 pub extern "C" fn strawhub_block_deliver(
     payload: &[u8],

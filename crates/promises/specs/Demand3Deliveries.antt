@@ -1,0 +1,153 @@
+-- Demand 3 of the payloads' blocks: the schedules of specs/Demand3.antt, each piece a block of a payload that is handed to strawhub_block_deliver, each sweep a strawhub_store_sweep.
+-- `deliveryOutcome`, `deliveryNumbers`, `deliveredAt` and `swept` are what the contracts of these calls say of every payload, place, record, room, buffer and six numbers.
+use mathlib.Core.Path.{_≡_}
+use mathlib.Core.Bool.{true, cond}
+use mathlib.Core.List.{List, [], _∷_}
+use mathlib.Core.Option.{Option, none, some}
+use Prim.Native.Nat.{ℕ, suc, _≤_, _<_}
+use lib.Dec.{eqb}
+use lib.ListN.{length, getD}
+use Rattle.wire.specs.Parts.{part}
+use Rattle.blocks.specs.declared.Part.{Part}
+use Rattle.blocks.specs.declared.Block.{Block}
+use Rattle.blocks.specs.declared.Block.the-variants as Body
+use Rattle.blocks.specs.declared.Read.the-variants as Got
+use Rattle.blocks.specs.Extent.{listed}
+use Rattle.blocks.specs.Reading.{bytesAt, readAt}
+use Rattle.blocks.specs.Writing.{roomAfter}
+use Rattle.reassembly.specs.Store.{Piece, first, follow, Whole, empty}
+use Rattle.reassembly.specs.Calls.{swept}
+use Rattle.reassembly.specs.Stands.{stands, Made, laidOut}
+use Rattle.outcomes.specs.declared.Outcome.{Outcome}
+use Rattle.outcomes.specs.Outcomes.{outcome}
+use Rattle.outcomes.specs.Deliveries.{deliveryOutcome, deliveryNumbers, deliveredAt}
+use Rattle.promises.specs.Demand3.{Cut, Within, pieceOf, noCut, Event, deliver, tidy, start, Schedule, Said, due, times}
+use Rattle.promises.specs.Demand3Calls.{Narrow}
+
+-- a payload has a block at a place, whose part of the payload has these bytes
+pub record HasBlock (s : List ℕ) (at : ℕ) (block : Part → Block) (bytes : List ℕ) : Type 0 where
+  pub body : Part
+  pub size : ℕ
+  pub next : ℕ
+  pub read : readAt s at ≡ Got.Block (block body) size next
+  pub same-bytes : part s (body .start) (body .len) ≡ bytes
+
+-- a piece is the block at a place: a first fragment with type, id and expiration, a follow-on with number, mark of the last and id
+abbrev pub Carries : List ℕ → ℕ → Piece → Type 0
+Carries s at (first id typ expires bytes) = HasBlock s at (λ p. Body.FirstFragment typ id expires p) bytes
+Carries s at (follow id number final bytes) = HasBlock s at (λ p. Body.FollowOnFragment number final id p) bytes
+
+-- What a call is lent for itself: a payload and a place in it, the assembly buffer, the six numbers; whatever they hold.
+pub record Loan : Type 0 where
+  pub payload : List ℕ
+  pub at : ℕ
+  pub out : List ℕ
+  pub told : List ℕ
+
+-- the block that a call is handed is the event's piece; a sweep is handed none
+abbrev pub HandedOne : List Cut → Loan → Event → Type 0
+HandedOne cs l (deliver c i now) = Carries (l .payload) (l .at) (pieceOf (getD cs c noCut) i)
+HandedOne cs l (tidy now) = Unit
+
+-- the n-th call is lent loans n
+abbrev pub Handed : List Cut → (ℕ → Loan) → ℕ → List Event → Type 0
+Handed cs loans n [] = Unit
+Handed cs loans n (e ∷ es) = HandedOne cs (loans n) e × Handed cs loans (suc n) es
+
+-- What a call tells: its number and value, the assembly buffer and the six numbers afterwards.
+pub record Tells : Type 0 where
+  pub outcome : Outcome
+  pub out : List ℕ
+  pub told : List ℕ
+
+-- what it leaves: that, and the record and the room
+pub record Leaves : Type 0 where
+  pub tells : Tells
+  pub rec : List ℕ
+  pub room : List ℕ
+
+-- an event, on lent bytes
+unfoldable pub handed : Loan → List ℕ → List ℕ → Event → Leaves
+handed l rec room (deliver c i now) =
+    record {
+      tells =
+          record {
+            outcome = deliveryOutcome (deliveredAt (l .payload) (l .at) rec room (l .out) now .received);
+            out = deliveredAt (l .payload) (l .at) rec room (l .out) now .out;
+            told = deliveryNumbers (deliveredAt (l .payload) (l .at) rec room (l .out) now .received) (l .told);
+          };
+      rec = deliveredAt (l .payload) (l .at) rec room (l .out) now .rec;
+      room = deliveredAt (l .payload) (l .at) rec room (l .out) now .room;
+    }
+handed l rec room (tidy now) = record { tells = record { outcome = outcome 0 0; out = l .out; told = l .told }; rec = swept now rec; room = room }
+
+-- what the calls tell, one after the other
+abbrev pub tellings : (ℕ → Loan) → ℕ → List ℕ → List ℕ → List Event → List Tells
+tellings loans n rec room [] = []
+tellings loans n rec room (e ∷ es) = handed (loans n) rec room e .tells ∷ tellings loans (suc n) (handed (loans n) rec room e .rec) (handed (loans n) rec room e .room) es
+
+-- the record and the room after the last of them
+abbrev pub lastRec : (ℕ → Loan) → ℕ → List ℕ → List ℕ → List Event → List ℕ
+lastRec loans n rec room [] = rec
+lastRec loans n rec room (e ∷ es) = lastRec loans (suc n) (handed (loans n) rec room e .rec) (handed (loans n) rec room e .room) es
+
+abbrev pub lastRoom : (ℕ → Loan) → ℕ → List ℕ → List ℕ → List Event → List ℕ
+lastRoom loans n rec room [] = room
+lastRoom loans n rec room (e ∷ es) = lastRoom loans (suc n) (handed (loans n) rec room e .rec) (handed (loans n) rec room e .room) es
+
+-- the number and value that are due: 54 with the block's place, else the number and 0
+unfoldable pub outcomeDue : ℕ → Said → Outcome
+outcomeDue at d = cond (eqb (d .number) 54) (outcome 54 at) (outcome (d .number) 0)
+
+-- six zeros; or 2, the assembly buffer, with type, id, expiration, place 0 and length
+unfoldable pub numbersOf : ℕ → Option Whole → List ℕ
+numbersOf id none = 0 ∷ 0 ∷ 0 ∷ 0 ∷ 0 ∷ 0 ∷ []
+numbersOf id (some w) = 2 ∷ w .typ ∷ id ∷ w .expires ∷ 0 ∷ length (w .bytes) ∷ []
+
+-- the six numbers that are due: as they were lent at 54
+unfoldable pub toldDue : ℕ → List ℕ → Said → List ℕ
+toldDue id told d = cond (eqb (d .number) 54) told (numbersOf id (d .out))
+
+-- all that is due of an event; a sweep answers 0, and is lent neither buffer nor numbers
+unfoldable pub tellsDue : List Cut → Loan → Event → Said → Tells
+tellsDue cs l (deliver c i now) d = record { outcome = outcomeDue (l .at) d; out = laidOut (l .out) (d .out); told = toldDue (getD cs c noCut .id) (l .told) d }
+tellsDue cs l (tidy now) d = record { outcome = outcome 0 0; out = l .out; told = l .told }
+
+abbrev pub allDue : List Cut → (ℕ → Loan) → ℕ → List Event → List Said → List Tells
+allDue cs loans n [] ds = []
+allDue cs loans n (e ∷ es) [] = []
+allDue cs loans n (e ∷ es) (d ∷ ds) = tellsDue cs (loans n) e d ∷ allDue cs loans (suc n) es ds
+
+-- Every call tells what is due, every message came out once, and the record and the room are again what calls made, and stand for the empty store.
+pub record OutcomeOfDeliveries (cs : List Cut) (loans : ℕ → Loan) (rec room : List ℕ) (es : List Event) : Type 0 where
+  pub tells : tellings loans 0 rec room es ≡ allDue cs loans 0 es (due cs (start cs) es)
+  pub once : (c : ℕ) → c < length cs → times c es (due cs (start cs) es) ≡ 1
+  pub ends-empty : stands (lastRec loans 0 rec room es) (lastRoom loans 0 rec room es) ≡ empty
+  pub made : Made (lastRec loans 0 rec room es) (lastRoom loans 0 rec room es)
+
+-- Demand 3, of the payloads' blocks
+abbrev pub Demand3Deliveries : Type 0
+Demand3Deliveries =
+    (cap : ℕ) → 65535 ≤ cap
+    → (loans : ℕ → Loan) → ((n : ℕ) → length (loans n .out) ≡ cap)
+    → (rec room : List ℕ) → Made rec room → stands rec room ≡ empty
+    → (cs : List Cut) → ((c : ℕ) → c < length cs → Within (getD cs c noCut))
+    → (es : List Event) → Narrow cs es → Handed cs loans 0 es → Schedule cs (start cs) es
+    → OutcomeOfDeliveries cs loans rec room es
+
+-- a piece as a block to be written, and the bytes to be written after its fields
+abbrev pub blockOf : Piece → Block
+blockOf (first id typ expires bytes) = Body.FirstFragment typ id expires (bytesAt 0 0)
+blockOf (follow id number final bytes) = Body.FollowOnFragment number final id (bytesAt 0 0)
+
+abbrev pub bodyOf : Piece → List ℕ
+bodyOf (first id typ expires bytes) = bytes
+bodyOf (follow id number final bytes) = bytes
+
+-- Such payloads exist: what the block writer leaves in a room of 1,512 bytes or more for a piece of a message within the limits, of a listed type, is that piece.
+abbrev pub WrittenIsHanded : Type 0
+WrittenIsHanded =
+    (c : Cut) → Within c → listed (c .typ) ≡ true → c .id < 4294967296 → c .expires < 4294967296
+    → (i : ℕ) → i < length (c .pieces)
+    → (room : List ℕ) → 1512 ≤ length room
+    → Carries (roomAfter (blockOf (pieceOf c i)) (bodyOf (pieceOf c i)) room) 0 (pieceOf c i)
