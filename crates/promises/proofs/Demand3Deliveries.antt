@@ -27,7 +27,7 @@ use Rattle.outcomes.specs.Deliveries.{deliveryOutcome, deliveryNumbers, deliver
 use Rattle.outcomes.proofs.DeliveryLaws.{told-kept, told-refused, told-finished}
 use Rattle.promises.specs.Demand3.{Cut, pieceOf, cutFrom, noCut, Event, deliver, tidy, Tally, noTally, done, marked, start, note, Said, dueOne, due, times, act, saidOf, said, final, Outcome as Result}
 use Rattle.promises.specs.Demand3Calls.{secondOf}
-use Rattle.promises.specs.Demand3Deliveries.{Carries, Loan, HandedOne, Handed, Tells, handed, tellings, lastRec, lastRoom, outcomeDue, numbersOf, toldDue, tellsDue, allDue, Demand3Deliveries, WrittenIsHanded}
+use Rattle.promises.specs.Demand3Deliveries.{Carries, Loan, HandedOne, Handed, Tells, handed, tellings, lastRec, lastRoom, outcomeDue, toldOf, toldDue, tellsDue, allDue, Demand3Deliveries, WrittenIsHanded}
 use Rattle.promises.proofs.Demand3.{demand3}
 
 -- the id of a piece
@@ -83,7 +83,7 @@ by-numbers told e h = (ap deliveryOutcome e ∙ h .0, ap (λ (z : Received). del
 -- there a delivery's numbers are as is due
 calm-tells : (at id : ℕ) (told : List ℕ) (d : Said) → Calm d
     → (deliveryOutcome (receivedFor at id (d .number) (d .out)) ≡ outcomeDue at d) × (deliveryNumbers (receivedFor at id (d .number) (d .out)) told ≡ toldDue id told d)
-unfolding outcomeDue toldDue numbersOf
+unfolding outcomeDue toldDue toldOf
 calm-tells at id told d repeated =
     by-numbers told (received-refused at id 54 (λ e. omega arith)) (told-refused told 54 at (λ e. omega arith) (λ e. omega arith))
 calm-tells at id told d kept = by-numbers told (received-kept at id) (told-kept told)

@@ -21,7 +21,7 @@ use Rattle.reassembly.specs.Stands.{stands, Made, laidOut}
 use Rattle.outcomes.specs.Outcomes.{outcome}
 use Rattle.promises.specs.Demand3.{Cut, Within, pieceOf, cutFrom, noCut, Event, deliver, tidy, Tally, noTally, begun, done, isOpen, marked, untouched, start, note, count, Allowed, Orderly, Schedule, dueOne, act, saidOf, said, Outcome}
 use Rattle.promises.specs.Demand3Calls.{secondOf, Narrow, lastly, OutcomeOfCalls}
-use Rattle.promises.specs.Demand3Deliveries.{Carries, Loan, Handed, Tells, tellings, outcomeDue, numbersOf, toldDue, tellsDue, OutcomeOfDeliveries, blockOf, bodyOf}
+use Rattle.promises.specs.Demand3Deliveries.{Carries, Loan, Handed, Tells, tellings, outcomeDue, toldOf, toldDue, tellsDue, OutcomeOfDeliveries, blockOf, bodyOf}
 use Rattle.promises.proofs.Demand3.{demand3}
 use Rattle.promises.proofs.Demand3Calls.{demand3-calls, starts}
 use Rattle.promises.proofs.Demand3Deliveries.{demand3-deliveries, written-is-handed}
@@ -288,7 +288,7 @@ module _ (space : List ℕ) (wide : 1512 ≤ length space) where
         (rec room : List ℕ) → Made rec room → stands rec room ≡ empty
         → (getD (tellings loans 0 rec room mixture) 3 (told-of []) ≡ record { outcome = outcome 54 3; out = outs 3; told = numbers 3 })
         × (getD (tellings loans 0 rec room mixture) 5 (told-of []) ≡ record { outcome = outcome 60 0; out = splice (outs 5) 0 (1 ∷ 2 ∷ 3 ∷ 4 ∷ 5 ∷ []); told = 2 ∷ 20 ∷ 7 ∷ 900 ∷ 0 ∷ 5 ∷ [] })
-    unfolding tellsDue outcomeDue toldDue numbersOf laidOut dueOne cutFrom start untouched note marked begun done isOpen
+    unfolding tellsDue outcomeDue toldDue toldOf laidOut dueOne cutFrom start untouched note marked begun done isOpen
     example-told rec room m z =
         let t = example-deliveries rec room m z .tells in
         (ap (λ (l : List Tells). getD l 3 (told-of [])) t, ap (λ (l : List Tells). getD l 5 (told-of [])) t)

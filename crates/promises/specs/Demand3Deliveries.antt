@@ -100,13 +100,13 @@ unfoldable pub outcomeDue : ℕ → Said → Outcome
 outcomeDue at d = cond (eqb (d .number) 54) (outcome 54 at) (outcome (d .number) 0)
 
 -- six zeros; or 2, the assembly buffer, with type, id, expiration, place 0 and length
-unfoldable pub numbersOf : ℕ → Option Whole → List ℕ
-numbersOf id none = 0 ∷ 0 ∷ 0 ∷ 0 ∷ 0 ∷ 0 ∷ []
-numbersOf id (some w) = 2 ∷ w .typ ∷ id ∷ w .expires ∷ 0 ∷ length (w .bytes) ∷ []
+unfoldable pub toldOf : ℕ → Option Whole → List ℕ
+toldOf id none = 0 ∷ 0 ∷ 0 ∷ 0 ∷ 0 ∷ 0 ∷ []
+toldOf id (some w) = 2 ∷ w .typ ∷ id ∷ w .expires ∷ 0 ∷ length (w .bytes) ∷ []
 
 -- the six numbers that are due: as they were lent at 54
 unfoldable pub toldDue : ℕ → List ℕ → Said → List ℕ
-toldDue id told d = cond (eqb (d .number) 54) told (numbersOf id (d .out))
+toldDue id told d = cond (eqb (d .number) 54) told (toldOf id (d .out))
 
 -- all that is due of an event; a sweep answers 0, and is lent neither buffer nor numbers
 unfoldable pub tellsDue : List Cut → Loan → Event → Said → Tells
