@@ -127,3 +127,8 @@ at-most-254 top got = go (got top) (runs true (map got (falling (top - 1) (min t
     go false cs h o = omega arith
     go true [] h o = omega arith
     go true (c ∷ ps) h o = omega arith
+
+-- those that it has are its pair bytes
+pub pairs-cut : (r : AckInfo) → take (r .len) (r .pairs) ≡ pairBytes r
+unfolding pairBytes
+pairs-cut r = refl

@@ -4,5 +4,6 @@ pub mod Twelve
 pub mod Demand1
 pub mod Demand1Calls
 pub mod Demand2
+pub mod Demand2Calls
 pub mod Demand3
 pub mod Demand3Calls
