@@ -7,6 +7,9 @@ use native.Mathlib.Omega.{arith}
 use lib.ListN.{length, take, replicate}
 use Rattle.wire.specs.Parts.{part}
 use Rattle.wire.proofs.Slices.{part-alike}
+use Rattle.blocks.specs.declared.Block.the-variants as Body
+use Rattle.blocks.specs.declared.Read.the-variants as Got
+use Rattle.blocks.specs.Reading.{bytesAt}
 use Rattle.acks.specs.declared.Tracker.{Tracker}
 use Rattle.acks.specs.declared.AckInfo.{AckInfo}
 use Rattle.acks.specs.History.{Packets, answerTo, among, received, highestSeen, newest}
@@ -14,19 +17,19 @@ use Rattle.acks.specs.Tracking.{held, registerOf}
 use Rattle.acks.specs.Reporting.{silent, ackInfo, pairBytes}
 use Rattle.acks.specs.Recorded.{short, trackerAt, registerThere, recordAll, duplicateThere, reportThere}
 use Rattle.acks.specs.AckBlocks.{ackWriting, ackRoom}
-use Rattle.acks.proofs.Faithful.{Faithful, pairs-cut, at-most-254}
+use Rattle.acks.proofs.Faithful.{Faithful, pairs-cut}
 use Rattle.acks.proofs.Histories.{registered-there, duplicate-there, reported-there, tracked, names-newest}
 use Rattle.acks.proofs.InPlace.{in-place, in-place-long, in-place-behind, in-place-small}
 use Rattle.acks.proofs.Sent.{is-written, is-read}
 use Rattle.acks.proofs.Refused.{silent-is-41, silent-unwritten, ack-leaves}
-use Rattle.outcomes.specs.Outcomes.{written}
+use Rattle.outcomes.specs.Outcomes.{outcome, written}
 use Rattle.outcomes.specs.Trackers.{newRecord, reportPairs}
 use Rattle.outcomes.proofs.TrackerLaws.{new-zeros, report-lent}
 use Rattle.outcomes.proofs.Refused.{report-stays}
 use Rattle.promises.specs.Acks.{after, reportAfter}
 use Rattle.promises.specs.Demand2.{ExpandsTo}
 use Rattle.promises.specs.Demand2Calls.{Starts, Unreported, Reported, Sent, OutcomeOfTracker, Demand2Calls}
-use Rattle.promises.proofs.Acks.{answered, duplicates-are-newest, reported}
+use Rattle.promises.proofs.Acks.{answered, duplicates-are-newest}
 use Rattle.promises.proofs.Demand1Calls.{is-refusal}
 use Rattle.promises.proofs.Demand2.{demand2, report-faithful, mixed, mixed-received}
 
@@ -49,13 +52,13 @@ module _ (calls : List ℕ) (r : AckInfo) (f : Faithful (highestSeen calls) (amo
       let z = names-newest calls r f list long in
       rw (same, sym (f .through-is)) (record { answers = z .0; fills = z .1 })
 
-  reports : (out pairs list : List ℕ) → r .len ≤ 254 → 255 ≤ length list → Reported calls r out pairs list
-  reports out pairs list few long =
+  reports : (out pairs list : List ℕ) → 255 ≤ length list → Reported calls r out pairs list
+  reports out pairs list long =
       let l = report-lent r out pairs (f .number-is) in
       record {
         given = f .number-is;
         lent = l .0 ∙ ap (λ (n : ℕ). n ∷ r .count ∷ r .len ∷ []) (f .through-is);
-        narrow = (small, omega (arith, f .adds-up), few);
+        narrow = (small, omega (arith, f .adds-up), omega (arith, f .few, f .sized));
         exact = names (take (r .len) (reportPairs r pairs)) list (ap (take (r .len)) (l .1) ∙ pairs-cut r) long;
       }
 
@@ -64,9 +67,12 @@ module _ (calls : List ℕ) (r : AckInfo) (f : Faithful (highestSeen calls) (amo
       let holds : 8 + length (pairBytes r) ≤ length room = omega (arith, f .few, big) in
       let b = is-read r room (f .number-is) (f .even) (f .few) holds (omega (arith, f .through-is, small)) in
       record {
-        wrote = ap written (is-written r room (f .number-is) (f .even) (f .few) holds);
-        read = rw (sym (f .through-is)) (b .0);
-        exact = names (part (ackRoom r room) 8 (length (pairBytes r))) list (b .1) long;
+        wrote = ap written (is-written r room (f .number-is) (f .even) (f .few) holds) ∙ ap (λ (n : ℕ). outcome 0 (8 + n)) (f .sized);
+        read =
+            b .0
+            ∙ ap (λ (n : ℕ). Got.Block (Body.Ack (r .through) (r .count) (bytesAt 8 n)) (5 + n) (8 + n)) (f .sized)
+            ∙ ap (λ (t : ℕ). Got.Block (Body.Ack t (r .count) (bytesAt 8 (r .len))) (5 + r .len) (8 + r .len)) (f .through-is);
+        exact = names (part (ackRoom r room) 8 (r .len)) list (ap (part (ackRoom r room) 8) (sym (f .sized)) ∙ b .1) long;
       }
 
 -- a record that holds the tracker of a history
@@ -86,9 +92,6 @@ module _ (calls left : List ℕ) (is : trackerAt left ≡ after calls) (long : s
   faithful : 0 < length (received calls) → Faithful (highestSeen calls) (among (received calls)) (reportThere left)
   faithful some = rw report (report-faithful calls some)
 
-  few : reportThere left .len ≤ 254
-  few = rw (report, reported calls) (at-most-254 (highestSeen calls) (among (received calls)))
-
 pub demand2-calls : Demand2Calls
 demand2-calls rec calls zeros packets =
     let left : List ℕ = recordAll rec calls in
@@ -101,7 +104,7 @@ demand2-calls rec calls zeros packets =
       registers = registers calls left is long;
       duplicates = duplicates calls left is long;
       silent = λ none out pairs room. unreported (reportThere left) out pairs room (report calls left is long ∙ demand2 calls .0 none);
-      reports = λ some out pairs list big. reports calls (reportThere left) (faithful calls left is long some) small out pairs list (few calls left is long) (omega (arith, big));
+      reports = λ some out pairs list big. reports calls (reportThere left) (faithful calls left is long some) small out pairs list (omega (arith, big));
       sent = λ some room list big far. sent calls (reportThere left) (faithful calls left is long some) small room list (omega (arith, big)) (omega (arith, far));
     }
 

@@ -10,7 +10,6 @@ use Rattle.blocks.specs.declared.Block.the-variants as Body
 use Rattle.blocks.specs.declared.Read.the-variants as Got
 use Rattle.blocks.specs.Reading.{bytesAt, readAt}
 use Rattle.acks.specs.History.{Packets, answerTo, among, received, highestSeen, newest}
-use Rattle.acks.specs.Reporting.{pairBytes}
 use Rattle.acks.specs.Recorded.{trackerAt, registerThere, recordAll, duplicateThere, reportThere}
 use Rattle.acks.specs.AckBlocks.{ackWriting, ackRoom}
 use Rattle.acks.specs.declared.AckInfo.{AckInfo}
@@ -44,11 +43,9 @@ pub record Reported (calls : List ℕ) (r : AckInfo) (out pairs list : List ℕ)
 
 -- its Ack block as strawhub_tracker_ack_block writes it, read back where it stands, names the same
 pub record Sent (calls : List ℕ) (r : AckInfo) (room list : List ℕ) : Type 0 where
-  pub wrote : written (ackWriting r (length room)) ≡ outcome 0 (8 + length (pairBytes r))
-  pub read :
-      readAt (ackRoom r room) 0
-      ≡ Got.Block (Body.Ack (highestSeen calls) (r .count) (bytesAt 8 (length (pairBytes r)))) (5 + length (pairBytes r)) (8 + length (pairBytes r))
-  pub exact : ExpandsTo (highestSeen calls) (r .count) (part (ackRoom r room) 8 (length (pairBytes r))) list (newest calls)
+  pub wrote : written (ackWriting r (length room)) ≡ outcome 0 (8 + r .len)
+  pub read : readAt (ackRoom r room) 0 ≡ Got.Block (Body.Ack (highestSeen calls) (r .count) (bytesAt 8 (r .len))) (5 + r .len) (8 + r .len)
+  pub exact : ExpandsTo (highestSeen calls) (r .count) (part (ackRoom r room) 8 (r .len)) list (newest calls)
 
 -- what the calls find in a record that a history of registrations left, where rec is the record that it began with
 pub record OutcomeOfTracker (rec calls left : List ℕ) : Type 0 where
