@@ -31,7 +31,7 @@ use Rattle.promises.specs.Demand2.{ExpandsTo}
 use Rattle.promises.specs.Demand2Calls.{Starts, Unreported, Reported, Sent, OutcomeOfTracker, Demand2Calls}
 use Rattle.promises.proofs.Acks.{answered, duplicates-are-newest}
 use Rattle.promises.proofs.Demand1Calls.{is-refusal}
-use Rattle.promises.proofs.Demand2.{demand2, report-faithful, mixed, mixed-received}
+use Rattle.promises.proofs.Demand2.{demand2, report-faithful, mixed, mixed-received, mixed-newest}
 
 pub starts : Starts
 starts = (part-alike 0 259 0 259 (omega arith), λ rec long. new-zeros rec (omega arith))
@@ -129,3 +129,11 @@ example-reported = example-calls .reports some (replicate 3 0) (replicate 254 0)
 -- and as an Ack block in a room of 262 bytes
 pub example-sent : Sent mixed (reportThere (recordAll begun mixed)) (replicate 262 0) (replicate 256 7)
 example-sent = example-calls .sent some (replicate 262 0) (replicate 256 7) (omega arith) (omega arith)
+
+-- 4 was received and the window moved past it; 200 is in the window
+pub example-late : (duplicateThere (recordAll begun mixed) 4 ≡ 0) × (duplicateThere (recordAll begun mixed) 200 ≡ 1)
+unfolding among
+example-late =
+    let one : (n : ℕ) → duplicateThere (recordAll begun mixed) n ≡ cond (among (300 ∷ 200 ∷ []) n) 1 0 =
+    λ n. example-calls .duplicates n ∙ ap (λ (l : List ℕ). cond (among l n) 1 0) mixed-newest in
+    (one 4, one 200)
