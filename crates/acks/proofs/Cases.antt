@@ -1,4 +1,4 @@
--- The marked cases that speak of acknowledgements, and the longest report, computed. Assumes nothing.
+-- The marked cases that speak of a tracker, its report and what an acknowledgement names, (c) and (h) to (k), computed. Assumes nothing.
 use mathlib.Core.Path.{_≡_, refl}
 use mathlib.Core.Bool.{true}
 use mathlib.Core.List.{[], _∷_}

@@ -1,4 +1,4 @@
--- A report, expanded, names exactly the received numbers of the window, falling. Assumes nothing.
+-- What a report is: refused where the highest is not received, else faithful, so that it names exactly the received numbers of the window, falling; and its pairs are few. Assumes nothing.
 use mathlib.Core.Path.{_≡_, refl, sym, ap, _∙_}
 use mathlib.Core.Bool.{Bool, true, false, cond}
 use mathlib.Core.List.{List, [], _∷_, _++_, map}
@@ -20,7 +20,7 @@ use Rattle.acks.proofs.Counting.{runs-count, runs-short, length-flags, 
 use Rattle.acks.proofs.Answers.{is-0}
 use Rattle.acks.proofs.Tracks.{Tracks}
 
--- what holds of a report
+-- what holds of a report that is not refused
 pub record Faithful (top : ℕ) (got : ℕ → Bool) (r : AckInfo) : Type 0 where
   pub number-is : r .number ≡ 0
   pub through-is : r .through ≡ top
@@ -29,6 +29,7 @@ pub record Faithful (top : ℕ) (got : ℕ → Bool) (r : AckInfo) : Type 0 wher
   pub adds-up : r .count + total (whole (pairBytes r)) ≡ min top 254
   pub even : length (pairBytes r) % 2 ≡ 0
   pub few : length (pairBytes r) ≤ 254
+  pub sized : length (pairBytes r) ≡ r .len
 
 module _ (top : ℕ) (got : ℕ → Bool) (h : got top ≡ true) where
   abbrev below : List Bool
@@ -47,6 +48,7 @@ module _ (top : ℕ) (got : ℕ → Bool) (h : got top ≡ true) where
         adds-up = rw (front, whole-even ps pairs) sum;
         even = rw front pairs;
         few = rw front (omega (arith, pairs, size));
+        sized = rw front refl;
       }
     where
       front : take (length ps) (ps ++ replicate (254 - length ps) 0) ≡ ps
@@ -82,7 +84,7 @@ module _ (top : ℕ) (got : ℕ → Bool) (h : got top ≡ true) where
   unfolding reportOf
   faithful = rw h (made (runs true below) refl)
 
--- before any number: the refusal
+-- where the highest is not received: the refusal
 pub unheard : (top : ℕ) (got : ℕ → Bool) → got top ≡ false → reportOf top got ≡ silent
 unfolding reportOf
 unheard top got h = rw h
@@ -127,3 +129,8 @@ at-most-254 top got = go (got top) (runs true (map got (falling (top - 1) (min t
     go false cs h o = omega arith
     go true [] h o = omega arith
     go true (c ∷ ps) h o = omega arith
+
+-- those that it has are its pair bytes
+pub pairs-cut : (r : AckInfo) → take (r .len) (r .pairs) ≡ pairBytes r
+unfolding pairBytes
+pairs-cut r = refl

@@ -1,31 +1,35 @@
 -- Laws of a history of calls: its tracker, by value and in place, and its report, by what was received. Assumes nothing.
 use mathlib.Core.Path.{_≡_, refl, sym, ap, _∙_}
-use mathlib.Core.Bool.{Bool, false, _&&_}
+use mathlib.Core.Bool.{Bool, false, cond, _&&_}
 use mathlib.Core.List.{List, []}
 use Prim.Native.Nat.{ℕ, _≤_, _<_}
-use lib.ListN.{length}
+use lib.ListN.{length, getD}
 use Rattle.wire.specs.Parts.{splice}
 use Rattle.acks.specs.declared.Tracker.{Tracker}
 use Rattle.acks.specs.declared.AckInfo.{AckInfo}
 use Rattle.acks.specs.Window.{window, inWindow, keep}
 use Rattle.acks.specs.History.{answerTo, among, received, highestSeen, newest}
-use Rattle.acks.specs.Tracking.{fresh, registerOf, registerAll}
+use Rattle.acks.specs.Tracking.{fresh, held, registerOf, registerAll}
 use Rattle.acks.specs.Reporting.{silent, reportOf, ackInfo, pairBytes}
 use Rattle.acks.specs.Expanding.{expandOf, listAfter}
-use Rattle.acks.specs.Recorded.{short, trackerAt, registerThere, reportThere}
+use Rattle.acks.specs.Recorded.{short, trackerAt, registerThere, duplicateThere, reportThere}
 use Rattle.acks.proofs.Tracks.{Tracks, follows, answer-is}
 use Rattle.acks.proofs.Faithful.{Faithful, faithful, unheard, expands}
-use Rattle.acks.proofs.Newest.{same-report, highest-among, in-window, among-keep}
+use Rattle.acks.proofs.Newest.{same-report, highest-among, first-kept, in-window, among-keep}
 
 -- a registration answers by what the tracker holds
 pub registered-is : {top : ℕ} {got : ℕ → Bool} {t : Tracker} → Tracks top got t → (n : ℕ) → registerOf t n .answer ≡ answerTo top got n
 unfolding registerOf
 registered-is w n = answer-is w n
 
--- a record that is not short answers and reports as the tracker there
+-- a record that is not short answers, tells and reports as the tracker there
 pub registered-there : (r : List ℕ) → short r ≡ false → (n : ℕ) → registerThere r n ≡ registerOf (trackerAt r) n .answer
 unfolding registerThere
 registered-there r e n = rw e
+
+pub duplicate-there : (r : List ℕ) → short r ≡ false → (n : ℕ) → duplicateThere r n ≡ cond (held (trackerAt r .highest) (trackerAt r .marks) n) 1 0
+unfolding duplicateThere
+duplicate-there r e n = rw e
 
 pub reported-there : (r : List ℕ) → short r ≡ false → reportThere r ≡ ackInfo (trackerAt r)
 unfolding reportThere
@@ -64,11 +68,16 @@ module _ (calls : List ℕ) where
       among-keep (among (received calls)) (window (highestSeen calls)) n
       ∙ ap (λ b. b && among (received calls) n) (in-window (highestSeen calls) n)
 
--- they and the highest settle the report
-pub newest-settle : (a b : List ℕ) → newest a ≡ newest b → highestSeen a ≡ highestSeen b
-    → reportOf (highestSeen a) (among (received a)) ≡ reportOf (highestSeen b) (among (received b))
+  -- the first of them is the highest number seen
+  pub first-newest : getD (newest calls) 0 0 ≡ highestSeen calls
+  unfolding newest highestSeen
+  first-newest = first-kept (received calls)
+
+-- they settle the report
+pub newest-settle : (a b : List ℕ) → newest a ≡ newest b → reportOf (highestSeen a) (among (received a)) ≡ reportOf (highestSeen b) (among (received b))
 unfolding newest
-newest-settle a b kept high =
+newest-settle a b kept =
+    let high : highestSeen a ≡ highestSeen b = sym (first-newest a) ∙ ap (λ (l : List ℕ). getD l 0 0) kept ∙ first-newest b in
     let top : keep (among (received b)) (window (highestSeen b)) ≡ keep (among (received b)) (window (highestSeen a)) =
     ap (λ t. keep (among (received b)) (window t)) (sym high) in
     same-report (highestSeen a) (among (received a)) (among (received b)) (kept ∙ top)

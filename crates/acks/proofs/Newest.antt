@@ -6,7 +6,7 @@ use mathlib.Core.Logic.{_⊎_, inl, inr, ⊎-elim}
 use Prim.Native.Nat.{ℕ, zero, suc, _+_, _-_, _≤_, _<_, max, min}
 use native.Mathlib.Omega.{arith}
 use lib.Dec.{eqb}
-use lib.ListN.{length}
+use lib.ListN.{length, getD}
 use borrow.Author.Tests.{eq-eqb, ne-eqb, eqb-true, eqb-false, lt-leb, le-leb, lt-ltb, le-ltb}
 use Rattle.acks.specs.Window.{falling, window, inWindow, keep}
 use Rattle.acks.specs.History.{highestOf, among}
@@ -71,6 +71,12 @@ highest-among (n ∷ (k ∷ l)) h =
     ap (λ x. eqb x n || among (k ∷ l) x) e ∙ ap (λ b. eqb (highestOf (k ∷ l)) n || b) (highest-among (k ∷ l) (omega arith)) ∙ or-true (eqb (highestOf (k ∷ l)) n))
     (λ q. rw (eq-eqb (max n (highestOf (k ∷ l))) n (omega arith)))
     (split n (highestOf (k ∷ l)))
+
+-- so of the received numbers of the window the first is the highest; where there is none it counts as 0
+pub first-kept : (l : List ℕ) → getD (keep (among l) (window (highestOf l))) 0 0 ≡ highestOf l
+unfolding window falling keep
+first-kept [] = unfold among highestOf in refl
+first-kept (n ∷ l) = rw (highest-among (n ∷ l) (omega arith))
 
 -- the numbers of the window are those that the test for it takes
 falling-in : (n k x : ℕ) → x ≤ n → n < x + k → among (falling n k) x ≡ true

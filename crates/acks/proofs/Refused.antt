@@ -17,7 +17,7 @@ use Rattle.acks.specs.declared.Tracker.{Tracker}
 use Rattle.acks.specs.declared.AckInfo.{AckInfo}
 use Rattle.acks.specs.History.{answerTo}
 use Rattle.acks.specs.Tracking.{mark, held, answerOf, registerOf}
-use Rattle.acks.specs.Reporting.{refusal, pairBytes, reportOf, ackInfo}
+use Rattle.acks.specs.Reporting.{refusal, silent, pairBytes, reportOf, ackInfo}
 use Rattle.acks.specs.Recorded.{short, trackerAt, registerThere, recordAfter, duplicateThere, reportThere}
 use Rattle.acks.specs.AckBlocks.{ackBlock, ackWriting, ackRoom}
 use Rattle.acks.specs.Runs.{whole, total}
@@ -139,6 +139,15 @@ ack-numbers r room m = go (eqb (reportThere r .number) 0) refl
     go false q e =
         let n : reportThere r .number ≡ m = cc in
         inr (subst (OneOf (41 ∷ 59 ∷ [])) n (report-numbers r (eqb-false (reportThere r .number) 0 q)))
+
+-- before any number: 41, and no block
+pub silent-is-41 : silent .number ≡ 41
+unfolding refusal
+silent-is-41 = refl
+
+pub silent-unwritten : (room : ℕ) → ackWriting silent room ≡ Wrote.Refused 41
+unfolding ackWriting refusal
+silent-unwritten room = refl
 
 -- the list of an expansion
 pub expand-leaves : (through count : ℕ) (ps list : List ℕ) → (expandOf through count ps (length list) .number ≡ 0 → ⊥) → listAfter through count ps list ≡ list

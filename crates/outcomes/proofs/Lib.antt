@@ -1,3 +1,4 @@
 -- The laws.
 pub mod DeliveryLaws
+pub mod TrackerLaws
 pub mod Refused

@@ -6,6 +6,7 @@ use native.Mathlib.Omega.{arith}
 use lib.ListN.{length, replicate}
 use Rattle.acks.specs.Window.{window, falling, keep}
 use Rattle.acks.specs.History.{answerTo, highestOf, among, receive, noted, receivedAfter, received, highestSeen, newest}
+use Rattle.acks.specs.Reporting.{pairBytes}
 use Rattle.acks.proofs.Faithful.{Faithful}
 use Rattle.acks.proofs.Histories.{report-before, report-after, names-newest}
 use Rattle.promises.specs.Acks.{reportAfter}
@@ -23,7 +24,7 @@ module _ (calls : List ℕ) where
         given = f .number-is;
         highest = f .through-is;
         exact = λ list big.
-            let z = names-newest calls (reportAfter calls) f list big in
+            let z = names-newest calls (reportAfter calls) f list (omega (arith, big)) in
             record { answers = z .0; fills = z .1 };
       }
 
@@ -43,7 +44,7 @@ unfolding newest highestSeen received receivedAfter noted answerTo receive highe
 mixed-newest = refl
 
 -- its report, expanded into a list of 256 places
-pub example : ExpandsTo (reportAfter mixed) (replicate 256 7) (300 ∷ 200 ∷ [])
+pub example : ExpandsTo (reportAfter mixed .through) (reportAfter mixed .count) (pairBytes (reportAfter mixed)) (replicate 256 7) (300 ∷ 200 ∷ [])
 example =
     let some : 0 < length (received mixed) = rw mixed-received (omega arith) in
     rw (sym mixed-newest) (demand2 mixed .1 some .exact (replicate 256 7) (omega arith))

@@ -11,7 +11,7 @@ use Rattle.reassembly.proofs.Steps.{Fits, first-agrees, follow-agrees}
 use Rattle.reassembly.proofs.Sweeps.{new-stands, new-made, zeros-stand, zeros-made}
 use Rattle.reassembly.proofs.Agreed.{fits-first, fits-follow, sweep-agrees}
 use Rattle.promises.specs.Demand3.{Cut, pieceOf, noCut, Event, deliver, tidy, start, due, times, act, saidOf, said, final, Outcome}
-use Rattle.promises.specs.Demand3Calls.{pieceCall, called, calls, lastly, replyDue, buffersDue, secondOf, Demand3Calls, Starts, Demand3Again, Demand3New}
+use Rattle.promises.specs.Demand3Calls.{pieceCall, called, calls, lastly, replyDue, buffersDue, secondOf, Demand3Calls, StoreStarts, Demand3Again, Demand3New}
 use Rattle.promises.proofs.Demand3.{demand3}
 
 piece-agrees : (rec room out : List ℕ) → Made rec room → (p : Piece) (second : ℕ) → Fits p second → Agrees out (pieceCall rec room out p second) (step (length out) (stands rec room) p second)
@@ -70,8 +70,8 @@ demand3-calls cap hc outs long rec room m z cs within es narrow q =
     }
 
 -- and where it starts
-pub starts : Starts
-starts =
+pub store-starts : StoreStarts
+store-starts =
     record {
       new = λ rec room lr lm. (new-made rec room lr lm, new-stands rec room lr lm);
       zero-filled = λ n room lr lm. (zeros-made n room lr lm, zeros-stand n room lr lm);
@@ -81,4 +81,4 @@ pub demand3-again : Demand3Again
 demand3-again cap outs outs′ hc long rec room cs es o ds within fs narrow q = demand3-calls cap hc outs′ long _ _ (o .made) (o .ends-empty) ds within fs narrow q
 
 pub demand3-new : Demand3New
-demand3-new cap outs hc long rec room lr lm = demand3-calls cap hc outs long (renewed rec) room (starts .new rec room lr lm .0) (starts .new rec room lr lm .1)
+demand3-new cap outs hc long rec room lr lm = demand3-calls cap hc outs long (renewed rec) room (store-starts .new rec room lr lm .0) (store-starts .new rec room lr lm .1)

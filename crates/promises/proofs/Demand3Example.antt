@@ -23,7 +23,7 @@ use Rattle.promises.specs.Demand3.{Cut, Within, pieceOf, cutFrom, noCut,
 use Rattle.promises.specs.Demand3Calls.{secondOf, Narrow, lastly, OutcomeOfCalls}
 use Rattle.promises.specs.Demand3Deliveries.{Carries, Loan, Handed, Tells, tellings, outcomeDue, toldOf, toldDue, tellsDue, OutcomeOfDeliveries, blockOf, bodyOf}
 use Rattle.promises.proofs.Demand3.{demand3}
-use Rattle.promises.proofs.Demand3Calls.{demand3-calls, starts}
+use Rattle.promises.proofs.Demand3Calls.{demand3-calls, store-starts}
 use Rattle.promises.proofs.Demand3Deliveries.{demand3-deliveries, written-is-handed}
 
 -- Tests that compute: whether cuts are within the limits, and whether a schedule keeps the rules
@@ -216,7 +216,7 @@ example-calls outs long rec room m z =
 -- on a record of zeros, and once more on what that left
 module _ (outs : ℕ → List ℕ) (long : (n : ℕ) → length (outs n) ≡ 65535) (n : ℕ) (room : List ℕ) (lr : 8576 ≤ n) (lm : 1048560 ≤ length room) where
   pub example-zeros : OutcomeOfCalls threeCuts outs (replicate n 0) room mixture
-  example-zeros = example-calls outs long (replicate n 0) room (starts .zero-filled n room lr lm .0) (starts .zero-filled n room lr lm .1)
+  example-zeros = example-calls outs long (replicate n 0) room (store-starts .zero-filled n room lr lm .0) (store-starts .zero-filled n room lr lm .1)
 
   pub example-again :
       OutcomeOfCalls threeCuts outs (lastly threeCuts outs 0 (replicate n 0) room mixture .rec) (lastly threeCuts outs 0 (replicate n 0) room mixture .room) mixture

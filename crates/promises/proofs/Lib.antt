@@ -7,7 +7,7 @@ pub mod Demand1
 pub mod Demand1Calls
 pub mod Demand1Example
 pub mod Demand2
-pub mod Demand2Sent
+pub mod Demand2Calls
 pub mod Demand3Marks
 pub mod Demand3Rebuilt
 pub mod Demand3Places

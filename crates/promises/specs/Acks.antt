@@ -3,12 +3,10 @@ use mathlib.Core.Path.{_≡_}
 use mathlib.Core.Bool.{_&&_}
 use mathlib.Core.List.{List}
 use Prim.Native.Nat.{ℕ}
-use lib.ListN.{replicate}
 use Rattle.acks.specs.Window.{inWindow}
-use Rattle.acks.specs.History.{Packets, answerTo, among, received, highestSeen, newest}
+use Rattle.acks.specs.History.{answerTo, among, received, highestSeen, newest}
 use Rattle.acks.specs.Tracking.{fresh, held, registerOf, registerAll}
 use Rattle.acks.specs.Reporting.{ackInfo}
-use Rattle.acks.specs.Recorded.{trackerAt, registerThere, recordAll, reportThere}
 use Rattle.acks.specs.declared.Tracker.{Tracker}
 use Rattle.acks.specs.declared.AckInfo.{AckInfo}
 
@@ -33,15 +31,6 @@ Duplicates =
 abbrev pub DuplicatesAreNewest : Type 0
 DuplicatesAreNewest = (calls : List ℕ) (n : ℕ) → held (after calls .highest) (after calls .marks) n ≡ among (newest calls) n
 
--- two histories with the same received numbers in the window and the same highest report the same
+-- two histories with the same received numbers in the window report the same
 abbrev pub SameReport : Type 0
-SameReport = (a b : List ℕ) → newest a ≡ newest b → highestSeen a ≡ highestSeen b → reportAfter a ≡ reportAfter b
-
--- the calls in place, from 259 zeros on, keep the record of that tracker; so they answer and report as it does
-abbrev pub InPlace : Type 0
-InPlace =
-    (calls : List ℕ)
-    → Packets calls
-    → (trackerAt (recordAll (replicate 259 0) calls) ≡ after calls)
-    × (reportThere (recordAll (replicate 259 0) calls) ≡ reportAfter calls)
-    × ((n : ℕ) → registerThere (recordAll (replicate 259 0) calls) n ≡ registerOf (after calls) n .answer)
+SameReport = (a b : List ℕ) → newest a ≡ newest b → reportAfter a ≡ reportAfter b

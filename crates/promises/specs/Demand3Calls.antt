@@ -68,7 +68,7 @@ Demand3Calls =
     → OutcomeOfCalls cs outs rec room es
 
 -- Records and rooms that meet its premises: a new record, and one of zeros, with any room of the lent length;
-pub record Starts : Type 0 where
+pub record StoreStarts : Type 0 where
   pub new : (rec room : List ℕ) → 8576 ≤ length rec → 1048560 ≤ length room → Made (renewed rec) room × (stands (renewed rec) room ≡ empty)
   pub zero-filled : (n : ℕ) (room : List ℕ) → 8576 ≤ n → 1048560 ≤ length room → Made (replicate n 0) room × (stands (replicate n 0) room ≡ empty)
 

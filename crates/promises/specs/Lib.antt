@@ -5,6 +5,7 @@ pub mod HeaderNumbers
 pub mod Demand1
 pub mod Demand1Calls
 pub mod Demand2
+pub mod Demand2Calls
 pub mod Demand3
 pub mod Demand3Calls
 pub mod Demand3Deliveries

@@ -24,4 +24,4 @@ fits-follow id number final bytes second a c = record { id = a; expires = omega 
 pub sweep-agrees : (second : ℕ) (rec room out : List ℕ) → Made rec room
     → Agrees out (after (bare 0) (swept second rec) room out) (record { number = 0; out = none; store = sweep second (stands rec room) })
 unfolding replyFor laidOut
-sweep-agrees second rec room out m = record { reply = refl; delivered = refl; store = sweep-stands second rec room m; made = sweep-made second rec room m }
+sweep-agrees second rec room out m = record { reply = refl; delivered = refl; store = sweep-stands second rec room (m .record-long); made = sweep-made second rec room m }

@@ -44,44 +44,55 @@ young-slot second rec room i e = go (eqb (headAt rec i .count) 0) (leb (headAt r
     go false true p q t = absurd (true≢false (rw (p, q) at t))
     go false false p q t = rw (p, q) refl
 
--- what one slot swept does
+-- what one slot swept does, with any room
 record One (second : ℕ) (rec room rec′ : List ℕ) (i : ℕ) : Type 0 where
-  made : Made rec′ room
+  long : 8576 ≤ length rec′
   here : slotAt rec′ room i ≡ sweptOne second (slotAt rec room i)
   there : (j : ℕ) → j < 16 → j ≢ i → slotAt rec′ room j ≡ slotAt rec room j
 
-one-swept : (second : ℕ) (rec room : List ℕ) (i : ℕ) → i < 16 → Made rec room → One second rec room (sweptAt second rec i) i
+one-swept : (second : ℕ) (rec room : List ℕ) (i : ℕ) → i < 16 → 8576 ≤ length rec → One second rec room (sweptAt second rec i) i
 unfolding sweptAt
-one-swept second rec room i hi m = go (isOld second (headAt rec i)) refl
+one-swept second rec room i hi long = go (isOld second (headAt rec i)) refl
   where
     o : Others rec room (withHead rec i noHead) room i
-    o = others-head rec room i noHead (m .record-long) hi
+    o = others-head rec room i noHead long hi
 
     go : (b : Bool) → isOld second (headAt rec i) ≡ b → One second rec room (cond (isOld second (headAt rec i)) (withHead rec i noHead) rec) i
     go true e =
         rw e
         (record {
-          made = made-with rec room (withHead rec i noHead) room i m (omega (arith, length-head rec (m .record-long) i hi noHead, m .record-long)) (m .room-long) hi o
-              (λ q. absurd (true≢false (sym (freed-free rec i (m .record-long) hi) ∙ q)));
-          here = freed-slot rec room i (m .record-long) hi ∙ sym (old-slot second rec room i e);
+          long = omega (arith, length-head rec long i hi noHead);
+          here = freed-slot rec room i long hi ∙ sym (old-slot second rec room i e);
           there = λ j hj q. slot-same rec room (withHead rec i noHead) room j (λ k hk. o .entries j k hj q hk) refl (o .heads j hj q);
         })
-    go false e = rw e (record { made = m; here = sym (young-slot second rec room i e); there = λ j hj q. refl })
+    go false e = rw e (record { long = long; here = sym (young-slot second rec room i e); there = λ j hj q. refl })
+
+-- it leaves what a call may be lent again
+one-made : (second : ℕ) (rec room : List ℕ) (i : ℕ) → i < 16 → Made rec room → Made (sweptAt second rec i) room
+unfolding sweptAt
+one-made second rec room i hi m = go (isOld second (headAt rec i))
+  where
+    go : (b : Bool) → Made (cond b (withHead rec i noHead) rec) room
+    go true =
+        made-with rec room (withHead rec i noHead) room i m (omega (arith, length-head rec (m .record-long) i hi noHead, m .record-long)) (m .room-long) hi
+        (others-head rec room i noHead (m .record-long) hi)
+        (λ q. absurd (true≢false (sym (freed-free rec i (m .record-long) hi) ∙ q)))
+    go false = m
 
 -- the first n slots swept
 record Upto (second : ℕ) (rec room rec′ : List ℕ) (n : ℕ) : Type 0 where
-  made : Made rec′ room
+  long : 8576 ≤ length rec′
   slots : (j : ℕ) → j < 16 → slotAt rec′ room j ≡ cond (ltb j n) (sweptOne second (slotAt rec room j)) (slotAt rec room j)
 
-swept-upto : (second : ℕ) (rec room : List ℕ) → Made rec room → (n : ℕ) → n ≤ 16 → Upto second rec room (sweptTo second rec n) n
-swept-upto second rec room m zero h = record { made = m; slots = λ j hj. rw (le-ltb j 0 (omega arith)) refl }
-swept-upto second rec room m (suc n) h = more (swept-upto second rec room m n (omega arith))
+swept-upto : (second : ℕ) (rec room : List ℕ) → 8576 ≤ length rec → (n : ℕ) → n ≤ 16 → Upto second rec room (sweptTo second rec n) n
+swept-upto second rec room long zero h = record { long = long; slots = λ j hj. rw (le-ltb j 0 (omega arith)) refl }
+swept-upto second rec room long (suc n) h = more (swept-upto second rec room long n (omega arith))
   where
     more : Upto second rec room (sweptTo second rec n) n → Upto second rec room (sweptAt second (sweptTo second rec n) n) (suc n)
-    more u = record { made = w .made; slots = λ j hj. at j hj (ℕ-discrete j n) (ltb j n) refl }
+    more u = record { long = w .long; slots = λ j hj. at j hj (ℕ-discrete j n) (ltb j n) refl }
       where
         w : One second (sweptTo second rec n) room (sweptAt second (sweptTo second rec n) n) n
-        w = one-swept second (sweptTo second rec n) room n (omega arith) (u .made)
+        w = one-swept second (sweptTo second rec n) room n (omega arith) (u .long)
 
         at : (j : ℕ) → j < 16 → Dec (j ≡ n) → (b : Bool) → ltb j n ≡ b
             → slotAt (sweptAt second (sweptTo second rec n) n) room j ≡ cond (ltb j (suc n)) (sweptOne second (slotAt rec room j)) (slotAt rec room j)
@@ -96,21 +107,25 @@ swept-upto second rec room m (suc n) h = more (swept-upto second rec room m n (o
             let ne : j ≡ n → ⊥ = q in
             rw (le-ltb j (suc n) (omega arith)) (w .there j hj q ∙ u .slots j hj ∙ rw e refl)
 
+upto-made : (second : ℕ) (rec room : List ℕ) → Made rec room → (n : ℕ) → n ≤ 16 → Made (sweptTo second rec n) room
+upto-made second rec room m zero h = m
+upto-made second rec room m (suc n) h = one-made second (sweptTo second rec n) room n (omega arith) (upto-made second rec room m n (omega arith))
+
 map-series : (g : Option Message → Option Message) (f : ℕ → Option Message) (i n : ℕ) → map g (series f i n) ≡ series (λ k. g (f k)) i n
 map-series g f i zero = refl
 map-series g f i (suc n) = ap {B = Store} (λ (z : Store). g (f i) ∷ z) (map-series g f (i + 1) n)
 
-pub sweep-stands : (second : ℕ) (rec room : List ℕ) → Made rec room → stands (swept second rec) room ≡ sweep second (stands rec room)
+pub sweep-stands : (second : ℕ) (rec room : List ℕ) → 8576 ≤ length rec → stands (swept second rec) room ≡ sweep second (stands rec room)
 unfolding swept stands sweep
-sweep-stands second rec room m =
-    let u : Upto second rec room (sweptTo second rec 16) 16 = swept-upto second rec room m 16 (omega arith) in
-    ap (λ (b : Bool). series (slotAt (cond b rec (sweptTo second rec 16)) room) 0 16) (le-ltb (length rec) 8576 (m .record-long))
+sweep-stands second rec room long =
+    let u : Upto second rec room (sweptTo second rec 16) 16 = swept-upto second rec room long 16 (omega arith) in
+    ap (λ (b : Bool). series (slotAt (cond b rec (sweptTo second rec 16)) room) 0 16) (le-ltb (length rec) 8576 long)
     ∙ series-same (slotAt (sweptTo second rec 16) room) (λ k. sweptOne second (slotAt rec room k)) 16 none (λ k hk. u .slots k hk ∙ rw (lt-ltb k 16 hk) refl)
     ∙ sym (map-series (sweptOne second) (slotAt rec room) 0 16)
 
 pub sweep-made : (second : ℕ) (rec room : List ℕ) → Made rec room → Made (swept second rec) room
 unfolding swept
-sweep-made second rec room m = rw (le-ltb (length rec) 8576 (m .record-long)) (swept-upto second rec room m 16 (omega arith) .made)
+sweep-made second rec room m = rw (le-ltb (length rec) 8576 (m .record-long)) (upto-made second rec room m 16 (omega arith))
 
 -- a new store stands for the empty one
 none-series : (i n : ℕ) → _≡_ {A = Store} (series (λ k. none) i n) (replicate n none)
@@ -121,7 +136,7 @@ count-zero : headOf (replicate 24 0) .count ≡ 0
 unfolding headOf
 count-zero = refl
 
-module _ (rec room : List ℕ) (n : ℕ) (lr : n ≤ length rec) (lm : 1048560 ≤ length room) (enough : 8576 ≤ n) where
+module _ (rec room : List ℕ) (n : ℕ) (lr : n ≤ length rec) (enough : 8576 ≤ n) where
   abbrev blank : List ℕ
   blank = splice rec 0 (replicate n 0)
 
@@ -149,16 +164,20 @@ module _ (rec room : List ℕ) (n : ℕ) (lr : n ≤ length rec) (lm : 1048560 �
   unfolding stands
   blank-stands = series-same (slotAt blank room) (λ k. none) 16 none blank-slot ∙ none-series 0 16
 
-  blank-made : Made blank room
-  blank-made = record { record-long = omega (arith, blank-long); room-long = lm; slots = λ i hi e. absurd (true≢false (sym (blank-free i hi) ∙ e)) }
+  blank-made : 1048560 ≤ length room → Made blank room
+  blank-made lm = record { record-long = omega (arith, blank-long); room-long = lm; slots = λ i hi e. absurd (true≢false (sym (blank-free i hi) ∙ e)) }
 
-pub new-stands : (rec room : List ℕ) → 8576 ≤ length rec → 1048560 ≤ length room → stands (renewed rec) room ≡ empty
+pub new-empty : (rec room : List ℕ) → 8576 ≤ length rec → stands (renewed rec) room ≡ empty
 unfolding renewed
-new-stands rec room lr lm = rw (le-ltb (length rec) 8576 lr) (blank-stands rec room 8576 lr lm (omega arith))
+new-empty rec room lr = rw (le-ltb (length rec) 8576 lr) (blank-stands rec room 8576 lr (omega arith))
+
+-- as whoever has both lengths at hand cites it
+pub new-stands : (rec room : List ℕ) → 8576 ≤ length rec → 1048560 ≤ length room → stands (renewed rec) room ≡ empty
+new-stands rec room lr lm = new-empty rec room lr
 
 pub new-made : (rec room : List ℕ) → 8576 ≤ length rec → 1048560 ≤ length room → Made (renewed rec) room
 unfolding renewed
-new-made rec room lr lm = rw (le-ltb (length rec) 8576 lr) (blank-made rec room 8576 lr lm (omega arith))
+new-made rec room lr lm = rw (le-ltb (length rec) 8576 lr) (blank-made rec room 8576 lr (omega arith) lm)
 
 -- a record of zeros is a new one
 zeros-blank : (n : ℕ) → splice {A = ℕ} (replicate n 0) 0 (replicate n 0) ≡ replicate n 0
@@ -178,13 +197,13 @@ zeros-made n room lr lm =
 pub sweep-promise : (second : ℕ) (rec rec′ : List ℕ) → rec′ ≡ swept second rec → Swept second rec rec′
 sweep-promise second rec rec′ e =
     record {
-      store = λ room m. ap (λ (z : List ℕ). stands z room) e ∙ sweep-stands second rec room m;
+      store = λ room long. ap (λ (z : List ℕ). stands z room) e ∙ sweep-stands second rec room long;
       made = λ room m. subst (λ (z : List ℕ). Made z room) (sym e) (sweep-made second rec room m);
     }
 
 pub new-promise : (rec rec′ : List ℕ) → rec′ ≡ renewed rec → New rec rec′
 new-promise rec rec′ e =
     record {
-      store = λ room lr lm. ap (λ (z : List ℕ). stands z room) e ∙ new-stands rec room lr lm;
+      store = λ room lr. ap (λ (z : List ℕ). stands z room) e ∙ new-empty rec room lr;
       made = λ room lr lm. subst (λ (z : List ℕ). Made z room) (sym e) (new-made rec room lr lm);
     }

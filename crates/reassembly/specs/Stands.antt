@@ -83,12 +83,12 @@ pub record Agrees (out : List ℕ) (x : After) (a : Answer) : Type 0 where
   pub store : stands (x .rec) (x .room) ≡ a .store
   pub made : Made (x .rec) (x .room)
 
--- A sweep did to what the record stands for, with any room that it was used with, what the store's sweep does.
+-- A sweep did to what the record stands for, with any room, what the store's sweep does, and left what a call may be lent again.
 pub record Swept (second : ℕ) (rec rec′ : List ℕ) : Type 0 where
-  pub store : (room : List ℕ) → Made rec room → stands rec′ room ≡ sweep second (stands rec room)
+  pub store : (room : List ℕ) → 8576 ≤ length rec → stands rec′ room ≡ sweep second (stands rec room)
   pub made : (room : List ℕ) → Made rec room → Made rec′ room
 
--- A new record stands for the empty store, with any room of the lent length.
+-- A new record stands for the empty store, with any room, and with one of the lent length it is what a call may be lent.
 pub record New (rec rec′ : List ℕ) : Type 0 where
-  pub store : (room : List ℕ) → 8576 ≤ length rec → 1048560 ≤ length room → stands rec′ room ≡ empty
+  pub store : (room : List ℕ) → 8576 ≤ length rec → stands rec′ room ≡ empty
   pub made : (room : List ℕ) → 8576 ≤ length rec → 1048560 ≤ length room → Made rec′ room

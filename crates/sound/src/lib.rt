@@ -79,7 +79,7 @@ fn is_tested(kind: u8, size: usize) -> bool
 
 // Whether a body whose bytes are there is sound.
 fn is_sound(payload: &[u8], body: usize, kind: u8, size: usize) -> bool
-    requires { ⌜ (body + bodyLength kind size ≤ length (now payload)) × (size < 65536) ⌝ }
+    requires { ⌜ body + bodyLength kind size ≤ length (now payload) ⌝ }
     ensures { λ r. ⌜ r ≡ sound (now (payload .entry)) body kind size ⌝ }
 {
     if (kind == 3) | (kind == 4) {

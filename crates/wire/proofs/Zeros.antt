@@ -6,7 +6,7 @@ use native.Mathlib.Nat.{one-le-pow}
 use native.Mathlib.Omega.{arith}
 use lib.ListN.{length, set, replicate, length-replicate, getD-replicate}
 use lib.Seq.{paste}
-use Rattle.wire.specs.Parts.{splice}
+use Rattle.wire.specs.Parts.{part, splice}
 use Rattle.wire.specs.Numbers.{littleBytes, littleAt}
 use Rattle.wire.proofs.Numbers.{littleAt-back}
 use Rattle.wire.proofs.Copying.{copy-turn, copy-end}
@@ -26,6 +26,8 @@ unfolding littleBytes
 little-none zero = refl
 little-none (suc n) = ap (λ (z : List ℕ). 0 ∷ z) (little-none n)
 
+pub littleAt-none : (n : ℕ) (l : List ℕ) (o : ℕ) → part l o n ≡ replicate n 0 → littleAt n l o ≡ 0
+littleAt-none n l o e = littleAt-back n 0 l o (one-le-pow n 256 (omega arith)) (e ∙ sym (little-none n))
+
 pub littleAt-zeros : (m n o : ℕ) → o + n ≤ m → littleAt n (replicate m 0) o ≡ 0
-littleAt-zeros m n o h =
-    littleAt-back n 0 (replicate m 0) o (one-le-pow n 256 (omega arith)) (part-alike 0 m o n h ∙ sym (little-none n))
+littleAt-zeros m n o h = littleAt-none n (replicate m 0) o (part-alike 0 m o n h)

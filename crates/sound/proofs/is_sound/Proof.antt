@@ -18,7 +18,7 @@ unfolding sound
 returns c = let a = c .before .before .before .args in let t : (eqb (a .kind) 3 || eqb (a .kind) 4) ≡ true = c .before .if1 .taken in rw (t, lt-leb (6 + a .kind) (a .size) (c .if2 .taken))
 
 shared-slice-read-is-listed : tie.Need-shared-slice-read-is-listed
-shared-slice-read-is-listed c = let a = c .before .before .before .before .args in let t : (eqb (a .kind) 3 || eqb (a .kind) 4) ≡ true = c .before .before .if1 .taken in omega (arith, c .before .before .before .before .pre .0, message-length (a .kind) (a .size) t, c .before .if2 .left)
+shared-slice-read-is-listed c = let a = c .before .before .before .before .args in let t : (eqb (a .kind) 3 || eqb (a .kind) 4) ≡ true = c .before .before .if1 .taken in omega (arith, c .before .before .before .before .pre, message-length (a .kind) (a .size) t, c .before .if2 .left)
 
 is-listed-requires : tie.Need-is-listed-requires
 is-listed-requires c κs = search needs

@@ -55,7 +55,7 @@ usize-from-u16-requires : tie.Need-usize-from-u16-requires
 usize-from-u16-requires c κs = search needs
 
 is-sound-requires : tie.Need-is-sound-requires
-is-sound-requires c κs = let a = c .before .before .before .before .before .before .before .before .args in let n : c .before .before .body-length .result ≡ bodyLength (kindAt (a .payload .now) (a .at)) (c .usize-from-u16 .result) = c .before .before .body-length .ensures .0 ∙ ap (bodyLength (kindAt (a .payload .now) (a .at))) (sym (c .usize-from-u16 .ensures .0)) in (omega (arith, n, c .before .if3 .left), c .usize-from-u16 .ensures .1)
+is-sound-requires c κs = let a = c .before .before .before .before .before .before .before .before .args in let n : c .before .before .body-length .result ≡ bodyLength (kindAt (a .payload .now) (a .at)) (c .usize-from-u16 .result) = c .before .before .body-length .ensures .0 ∙ ap (bodyLength (kindAt (a .payload .now) (a .at))) (sym (c .usize-from-u16 .ensures .0)) in omega (arith, n, c .before .if3 .left)
 
 add-t13 : tie.Need-add-t13
 add-t13 c = search needs
