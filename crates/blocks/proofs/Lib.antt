@@ -1,5 +1,6 @@
 -- The laws that the crates above cite.
 pub mod Ends
+pub mod Orders
 pub mod Puts
 pub mod Faults
 pub mod Types

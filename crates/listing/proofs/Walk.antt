@@ -1,4 +1,4 @@
--- The walk over a payload's blocks. It knows of the reader one thing alone: a block that was read ends after its place and not past the end. Assumes nothing.
+-- The walk over a payload's blocks. Counting knows of the reader that a block that was read ends after its place and not past the end; filling knows also that its type and size stand at its place, and that they say how long it is. Assumes nothing.
 use mathlib.Core.Path.{_≡_, refl, sym, ap, _∙_, subst}
 use mathlib.Core.Bool.{Bool, true, false, cond}
 use mathlib.Core.List.{List, [], _∷_, _++_}
@@ -19,7 +19,7 @@ use Rattle.blocks.specs.Sound.{bodyLength}
 use Rattle.listing.specs.Listing.{Listing, ok, no, entry, cons, onward, blocksFrom, blocksOf, limited, listing, counts, refusal, answerOf, filled, stepOver, staysAt, stepAt, entriesFrom}
 use Rattle.blocks.proofs.Ends.{bounded}
 
--- the one thing
+-- what counting knows of the reader
 pub goes-on : (s : List ℕ) (at k z next : ℕ) → extentAt s at ≡ End.Ends k z next → (at + 3 ≤ next) × (next ≤ length s)
 goes-on s at k z next e = let b = bounded s at k z next e in (omega (arith, b .fields), b .inside)
 
