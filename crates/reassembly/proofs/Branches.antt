@@ -14,11 +14,11 @@ use Rattle.reassembly.specs.declared.Head.{Head}
 use Rattle.reassembly.specs.declared.Entry.{Entry}
 use Rattle.reassembly.specs.declared.Label.{Label}
 use Rattle.reassembly.specs.declared.Reply.{Reply}
-use Rattle.reassembly.specs.Record.{headAt, withHead, entryAt, withEntry, pieceAt, cleared}
+use Rattle.reassembly.specs.Record.{headAt, withHead, entryAt, withEntry, outside, pieceAt, cleared}
 use Rattle.reassembly.specs.Slots.{firstFrom, isOpenAs, isFree}
-use Rattle.reassembly.specs.Message.{messageOf}
+use Rattle.reassembly.specs.Message.{messageOf, joinsOutside}
 use Rattle.reassembly.specs.Judge.{pick, sameLabel, again, misfits, moreOf, grownBy, isWhole, newHead, noHead, isOld}
-use Rattle.reassembly.specs.Calls.{After, after, bare, keptRec, keptRoom, finished, putIn, added, openedIn, openedNow, taken, isShort, badSize, offNumber, firstCall, followOnCall, sweptAt, sweptTo}
+use Rattle.reassembly.specs.Calls.{After, after, bare, keptRec, keptRoom, finished, putIn, compared, added, openedIn, openedNow, taken, isShort, badSize, offNumber, firstCall, followOnCall, sweptAt, sweptTo}
 
 -- a message that is whole has a last number below 128
 pub whole-last : (h : Head) → isWhole h ≡ true → h .last < 128
@@ -31,21 +31,29 @@ whole-last h e = ltb-true (h .last) 128 (go (ltb 0 (h .last)) (ltb (h .last) 128
     go false b c q = absurd (false≢true q)
 
 module _ (rec room out : List ℕ) (i : ℕ) (l : Label) (g : Head) (v : List ℕ) where
-  pub finished-short : (r : Reply) (n k m : ℕ) → k ≡ l .number → m ≡ g .last → n ≡ length (messageOf rec room i k v (m + 1)) → length out < n → r ≡ bare 56 → after r rec room out ≡ finished rec room out i l g v
+  pub finished-59 : (r : Reply) (o : Bool) (k m : ℕ) → k ≡ l .number → m ≡ g .last → o ≡ joinsOutside rec i k (m + 1) → o ≡ true → r ≡ bare 59 → after r rec room out ≡ finished rec room out i l g v
   unfolding finished
-  finished-short r n k m ek em en h q =
+  finished-59 r o k m ek em eo t q =
+      let u : joinsOutside rec i (l .number) (g .last + 1) ≡ true = cc in
+      rw (u, q) refl
+
+  pub finished-short : (r : Reply) (o : Bool) (n k m : ℕ) → k ≡ l .number → m ≡ g .last → o ≡ joinsOutside rec i k (m + 1) → o ≡ false → n ≡ length (messageOf rec room i k v (m + 1)) → length out < n → r ≡ bare 56 → after r rec room out ≡ finished rec room out i l g v
+  unfolding finished
+  finished-short r o n k m ek em eo f en h q =
+      let u : joinsOutside rec i (l .number) (g .last + 1) ≡ false = cc in
       let e : n ≡ length (messageOf rec room i (l .number) v (g .last + 1)) = cc in
       let t : ltb (length out) (length (messageOf rec room i (l .number) v (g .last + 1))) ≡ true = lt-ltb (length out) (length (messageOf rec room i (l .number) v (g .last + 1))) (omega arith) in
-      rw (t, q) refl
+      rw (u, t, q) refl
 
-  pub finished-out : (n k m : ℕ) (rec′ out′ : List ℕ) (z : Head) → k ≡ l .number → m ≡ g .last → n ≡ length (messageOf rec room i k v (m + 1)) → n ≤ length out
+  pub finished-out : (o : Bool) (n k m : ℕ) (rec′ out′ : List ℕ) (z : Head) → k ≡ l .number → m ≡ g .last → o ≡ joinsOutside rec i k (m + 1) → o ≡ false → n ≡ length (messageOf rec room i k v (m + 1)) → n ≤ length out
       → out′ ≡ splice out 0 (messageOf rec room i k v (m + 1)) → z ≡ noHead → rec′ ≡ withHead rec i z
       → after (record { number = 60; kind = g .kind; expires = g .expires; length = n }) rec′ room out′ ≡ finished rec room out i l g v
   unfolding finished
-  finished-out n k m rec′ out′ z ek em en h eo eh er =
+  finished-out o n k m rec′ out′ z ek em eo f en h eq eh er =
+      let u : joinsOutside rec i (l .number) (g .last + 1) ≡ false = cc in
       let s : n ≡ length (messageOf rec room i (l .number) v (g .last + 1)) = cc in
       let t : ltb (length out) (length (messageOf rec room i (l .number) v (g .last + 1))) ≡ false = le-ltb (length out) (length (messageOf rec room i (l .number) v (g .last + 1))) (omega arith) in
-      rw t (cc)
+      rw (u, t) (cc)
 
 module _ (rec room out : List ℕ) (i : ℕ) (h : Head) (l : Label) (v : List ℕ) where
   pub put-53 : (r : Reply) → 65535 < h .total + length v → r ≡ bare 53 → after r rec room out ≡ putIn rec room out i h l v
@@ -69,10 +77,10 @@ module _ (rec room out : List ℕ) (i : ℕ) (l : Label) (v : List ℕ) (h : Hea
   len-is : e .len ≡ entryAt rec i (l .number) .len
   len-is = ap (λ (x : Entry). x .len) ee ∙ ap (λ (z : ℕ). entryAt rec i z .len) ek
 
-  pub added-again : (r : Reply) (n : ℕ) (held : List ℕ) → (e .len ≡ 0 → ⊥) → held ≡ pieceAt rec room i k → n ≡ again h l held v → r ≡ bare n → after r rec room out ≡ added rec room out i l v
+  pub added-again : (r : Reply) (n : ℕ) → (e .len ≡ 0 → ⊥) → n ≡ compared rec room i h l v → r ≡ bare n → after r rec room out ≡ added rec room out i l v
   unfolding added
-  added-again r n held t p q b =
-      let u : n ≡ again (headAt rec i) l (pieceAt rec room i (l .number)) v = cc in
+  added-again r n t q b =
+      let u : n ≡ compared rec room i (headAt rec i) l v = cc in
       rw (ne-eqb (entryAt rec i (l .number) .len) 0 (λ z. t (len-is ∙ z)), b, u) refl
 
   pub added-55 : (r : Reply) (b : Bool) → e .len ≡ 0 → b ≡ misfits h l → b ≡ true → r ≡ bare 55 → after r rec room out ≡ added rec room out i l v
@@ -86,6 +94,20 @@ module _ (rec room out : List ℕ) (i : ℕ) (l : Label) (v : List ℕ) (h : Hea
   added-put x b t m m′ q =
       let u : misfits (headAt rec i) l ≡ false = cc in
       rw (eq-eqb (entryAt rec i (l .number) .len) 0 (sym len-is ∙ t), u) (q ∙ ap (λ (z : Head). putIn rec room out i z l v) eh)
+
+-- a piece whose number is held
+module _ (rec room : List ℕ) (i : ℕ) (h : Head) (l : Label) (v : List ℕ) (k : ℕ) (e : Entry) (o : Bool) (ek : k ≡ l .number) (ee : e ≡ entryAt rec i k) (eo : o ≡ outside e) where
+  pub compared-59 : o ≡ true → 59 ≡ compared rec room i h l v
+  unfolding compared
+  compared-59 t =
+      let u : outside (entryAt rec i (l .number)) ≡ true = cc in
+      rw u refl
+
+  pub compared-again : (n : ℕ) (held : List ℕ) → o ≡ false → held ≡ pieceAt rec room i k → n ≡ again h l held v → n ≡ compared rec room i h l v
+  unfolding compared
+  compared-again n held f p q =
+      let u : outside (entryAt rec i (l .number)) ≡ false = cc in
+      rw u (cc)
 
 -- a piece put after what its slot holds
 pub kept-is : (rec rec₁ rec′ room room′ : List ℕ) (i k total : ℕ) (g : Head) (v : List ℕ) (at : ℕ) → at ≡ total → room′ ≡ splice room (i * 65535 + at) v

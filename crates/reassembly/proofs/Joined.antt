@@ -1,40 +1,40 @@
 -- Laws of a slot's pieces, and of a loop that lays them down. Assumes nothing.
 use mathlib.Core.Path.{_≡_, refl, sym, ap, _∙_}
-use mathlib.Core.Bool.{Bool, true, false, cond}
+use mathlib.Core.Bool.{Bool, false, _||_}
 use mathlib.Core.List.{List}
 use mathlib.Core.Logic.{⊎-elim}
-use Prim.Native.Nat.{ℕ, zero, suc, _+_, _-_, _*_, _≤_, _<_}
+use Prim.Native.Nat.{ℕ, zero, suc, _+_, _*_, _≤_, _<_}
+use native.Mathlib.Decide.{ℕ-discrete}
 use native.Mathlib.Nat.{eq-or-lt-of-le}
 use native.Mathlib.Numerals.{add-one}
 use native.Mathlib.Omega.{arith}
-use lib.Dec.{eqb, leb}
 use lib.ListN.{length, length-append}
-use borrow.Author.Tests.{eq-eqb, ne-eqb, leb-true, leb-false}
-use Rattle.wire.specs.Parts.{part, splice}
-use Rattle.wire.proofs.Parts.{part-cut, length-part, splice-join}
-use Rattle.wire.proofs.Slices.{length-part-min}
-use Rattle.reassembly.specs.Record.{roomOf, entryAt, pieceAt}
-use Rattle.reassembly.specs.Message.{pieceOr, upTo}
-
--- what `cut` says of its result
-abbrev pub Cut : ℕ → ℕ → ℕ → Type 0
-Cut p n r = (r + p ≤ 65535) × (r ≤ n) × (n + p ≤ 65535 → r ≡ n) × (65535 < n + p → r ≡ 65535 - p)
+use borrow.Author.Tests.{eq-eqb, ne-eqb, le-ltb, ltb-false}
+use Rattle.wire.specs.Parts.{splice}
+use Rattle.wire.proofs.Parts.{length-part, splice-join}
+use Rattle.wire.proofs.Tests.{or-neither}
+use Rattle.reassembly.specs.declared.Entry.{Entry}
+use Rattle.reassembly.specs.Record.{roomOf, entryAt, outside, pieceAt}
+use Rattle.reassembly.specs.Message.{pieceOr, upTo, messageOf, outsideOr, someOf, joinsOutside, lengthOr, sumOf}
 
 pub length-room : (room : List ℕ) (i : ℕ) → 1048560 ≤ length room → i < 16 → length (roomOf room i) ≡ 65535
 unfolding roomOf
 length-room room i h k = length-part room (i * 65535) 65535 (omega arith)
 
-cut-case : (l : List ℕ) (p n r : ℕ) → length l ≡ 65535 → p ≤ 65535 → Cut p n r → (b : Bool) → leb (n + p) 65535 ≡ b → part l p n ≡ part l p r
-cut-case l p n r h hp c true e = ap (part l p) (sym (c .2 (leb-true (n + p) 65535 e)))
-cut-case l p n r h hp c false e =
-    let q : 65535 < n + p = leb-false (n + p) 65535 e in
-    let z : r ≡ 65535 - p = c .3 q in
-    part-cut l p n (omega arith) ∙ sym (part-cut l p r (omega arith))
+-- bytes that are not outside
+pub inside-le : (e : Entry) → outside e ≡ false → e .place + e .len ≤ 65535
+unfolding outside
+inside-le e q = ltb-false 65535 (e .place + e .len) q
 
--- a piece by its cut length
-pub piece-cut : (room : List ℕ) (i p n r : ℕ) → 1048560 ≤ length room → i < 16 → p ≤ 65535 → Cut p n r → part (roomOf room i) p r ≡ part (roomOf room i) p n
-piece-cut room i p n r hm hi hp c =
-    sym (cut-case (roomOf room i) p n r (length-room room i hm hi) hp c (leb (n + p) 65535) refl)
+pub le-inside : (e : Entry) → e .place + e .len ≤ 65535 → outside e ≡ false
+unfolding outside
+le-inside e h = le-ltb 65535 (e .place + e .len) h
+
+-- a piece that is not outside is as long as its entry says
+pub inside-length : (rec room : List ℕ) (i k : ℕ) → 1048560 ≤ length room → i < 16 → outside (entryAt rec i k) ≡ false → length (pieceAt rec room i k) ≡ entryAt rec i k .len
+unfolding pieceAt
+inside-length rec room i k long hi q =
+    length-part (roomOf room i) (entryAt rec i k .place) (entryAt rec i k .len) (omega (arith, inside-le (entryAt rec i k) q, length-room room i long hi))
 
 pub piece-given : (rec room : List ℕ) (i m : ℕ) (v : List ℕ) (k : ℕ) → k ≡ m → pieceOr rec room i m v k ≡ v
 unfolding pieceOr
@@ -44,14 +44,40 @@ pub piece-held : (rec room : List ℕ) (i m : ℕ) (v : List ℕ) (k : ℕ) → 
 unfolding pieceOr
 piece-held rec room i m v k ne = rw (ne-eqb k m ne)
 
--- no piece is longer than a slot's room
-pub piece-short : (rec room : List ℕ) (i m : ℕ) (v : List ℕ) (k : ℕ) → 1048560 ≤ length room → i < 16 → length v ≤ 1500 → length (pieceOr rec room i m v k) ≤ 65535
-unfolding pieceOr pieceAt
-piece-short rec room i m v k hm hi hv = short (eqb k m)
+pub outside-given : (rec : List ℕ) (i m k : ℕ) → k ≡ m → outsideOr rec i m k ≡ false
+unfolding outsideOr
+outside-given rec i m k e = rw (eq-eqb k m e) refl
+
+pub outside-held : (rec : List ℕ) (i m k : ℕ) → (k ≡ m → ⊥) → outsideOr rec i m k ≡ outside (entryAt rec i k)
+unfolding outsideOr
+outside-held rec i m k ne = rw (ne-eqb k m ne) refl
+
+pub length-given : (rec : List ℕ) (i m n k : ℕ) → k ≡ m → lengthOr rec i m n k ≡ n
+unfolding lengthOr
+length-given rec i m n k e = rw (eq-eqb k m e) refl
+
+pub length-held : (rec : List ℕ) (i m n k : ℕ) → (k ≡ m → ⊥) → lengthOr rec i m n k ≡ entryAt rec i k .len
+unfolding lengthOr
+length-held rec i m n k ne = rw (ne-eqb k m ne) refl
+
+-- one number more; and none of some
+pub sum-turn : (f : ℕ → ℕ) (n a b : ℕ) → a ≡ sumOf f n → b ≡ f n → a + b ≡ sumOf f (n + 1)
+sum-turn f n a b ea eb = rw (add-one n, ea, eb) refl
+
+pub some-turn : (p : ℕ → Bool) (n : ℕ) (a b : Bool) → a ≡ someOf p n → b ≡ p n → (a || b) ≡ someOf p (n + 1)
+some-turn p n a b ea eb = rw (add-one n, ea, eb) refl
+
+pub none-of : (p : ℕ → Bool) (n k : ℕ) → k < n → someOf p n ≡ false → p k ≡ false
+none-of p zero k h e = absurd (omega arith)
+none-of p (suc n) k h e =
+    ⊎-elim (λ (q : k ≡ n). ap p q ∙ or-neither (someOf p n) (p n) e .1) (λ (q : k < n). none-of p n k q (or-neither (someOf p n) (p n) e .0)) (eq-or-lt-of-le (below k n h))
   where
-    short : (b : Bool) → length (cond b v (part (roomOf room i) (entryAt rec i k .place) (entryAt rec i k .len))) ≤ 65535
-    short true = omega arith
-    short false = omega (arith, length-part-min (roomOf room i) (entryAt rec i k .place) (entryAt rec i k .len), length-room room i hm hi)
+    below : (k n : ℕ) → k < suc n → k ≤ n
+    below k n h = omega arith
+
+pub none-all : (p : ℕ → Bool) (n : ℕ) → ((k : ℕ) → k < n → p k ≡ false) → someOf p n ≡ false
+none-all p zero f = refl
+none-all p (suc n) f = rw (none-all p n (λ k h. f k (omega arith)), f n (omega arith)) refl
 
 -- one piece more
 pub more-length : (f : ℕ → List ℕ) (n : ℕ) → length (upTo f (n + 1)) ≡ length (upTo f n) + length (f n)
@@ -64,6 +90,28 @@ more-mono f m zero h = rw (m-zero m h) (omega arith)
     m-zero m h = omega arith
 more-mono f m (suc n) h =
     ⊎-elim (λ (q : m ≡ suc n). rw q (omega arith)) (λ (q : m < suc n). omega (arith, more-mono f m n (omega arith), length-append (upTo f n) (f n))) (eq-or-lt-of-le h)
+
+-- where none is outside, the lengths of the entries add up to the message's
+lengths : (rec room : List ℕ) (i m : ℕ) (v : List ℕ) → 1048560 ≤ length room → i < 16 → (n : ℕ) → someOf (outsideOr rec i m) n ≡ false
+    → sumOf (lengthOr rec i m (length v)) n ≡ length (upTo (pieceOr rec room i m v) n)
+lengths rec room i m v long hi zero e = refl
+lengths rec room i m v long hi (suc n) e =
+    let q = or-neither (someOf (outsideOr rec i m) n) (outsideOr rec i m n) e in
+    let f : ℕ → List ℕ = pieceOr rec room i m v in
+    let a : sumOf (lengthOr rec i m (length v)) n ≡ length (upTo f n) = lengths rec room i m v long hi n (q .0) in
+    let b : lengthOr rec i m (length v) n ≡ length (f n) = one (ℕ-discrete n m) (q .1) in
+    omega (arith, length-append (upTo f n) (f n))
+  where
+    one : Dec (n ≡ m) → outsideOr rec i m n ≡ false → lengthOr rec i m (length v) n ≡ length (pieceOr rec room i m v n)
+    one (yes y) o = length-given rec i m (length v) n y ∙ sym (ap length (piece-given rec room i m v n y))
+    one (no y) o =
+        length-held rec i m (length v) n y
+        ∙ sym (ap length (piece-held rec room i m v n y) ∙ inside-length rec room i n long hi (sym (outside-held rec i m n y) ∙ o))
+
+pub measured : (rec room : List ℕ) (i m : ℕ) (v : List ℕ) (n : ℕ) (o : Bool) (size : ℕ) → 1048560 ≤ length room → i < 16
+    → o ≡ joinsOutside rec i m n → size ≡ sumOf (lengthOr rec i m (length v)) n → o ≡ false → size ≡ length (messageOf rec room i m v n)
+unfolding joinsOutside messageOf
+measured rec room i m v n o size long hi eo es f = es ∙ lengths rec room i m v long hi n (sym eo ∙ f)
 
 -- a turn of a loop that lays pieces down
 pub laid-turn : (f : ℕ → List ℕ) (d : List ℕ) (k : ℕ) → length (upTo f (k + 1)) ≤ length d → splice (splice d 0 (upTo f k)) (length (upTo f k)) (f k) ≡ splice d 0 (upTo f (k + 1))

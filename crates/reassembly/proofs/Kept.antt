@@ -1,7 +1,7 @@
 -- A slot whose head agrees with its entries: what its pieces are, whether its message is complete, and that a kept piece keeps the agreement. Assumes nothing.
 use mathlib.Core.Path.{_≡_, refl, sym, ap, _∙_}
 use mathlib.Core.Logic.{_≢_}
-use mathlib.Core.Bool.{Bool, true, false, not, _&&_, _||_, true≢false}
+use mathlib.Core.Bool.{Bool, true, false, cond, not, _&&_, _||_, true≢false}
 use mathlib.Core.List.{List, []}
 use Prim.Native.Nat.{ℕ, suc, _+_, _≤_, _<_}
 use native.Mathlib.Omega.{arith}
@@ -11,18 +11,19 @@ use lib.ListN.{length, getD, take, set}
 use lib.Seq.{getD-set-same, getD-set-other}
 use borrow.Author.Tests.{lt-ltb, ltb-true, ltb-false}
 use Rattle.wire.specs.Parts.{part}
-use Rattle.wire.proofs.Parts.{part-same, part-before, length-part}
+use Rattle.wire.proofs.Parts.{part-same, part-before}
 use Rattle.reassembly.specs.declared.Head.{Head}
 use Rattle.reassembly.specs.declared.Entry.{Entry}
 use Rattle.reassembly.specs.declared.Label.{Label}
 use Rattle.reassembly.specs.Store.{isHeld, allHeld, total, complete}
-use Rattle.reassembly.specs.Record.{headAt, entryAt, withEntry, roomOf, pieceAt}
+use Rattle.reassembly.specs.Record.{headAt, entryAt, withEntry, outside, roomOf, pieceAt}
 use Rattle.reassembly.specs.Judge.{pick, misfits, moreOf, grownBy, isWhole}
+use Rattle.reassembly.specs.Message.{outsideOr, joinsOutside}
 use Rattle.reassembly.specs.Calls.{keptRec, keptRoom}
 use Rattle.reassembly.specs.Stands.{tableAt, messageWith, heldOf, Fine}
 use Rattle.reassembly.proofs.Table.{total-set, held-of-length}
 use Rattle.reassembly.proofs.Fields.{HeadFits}
-use Rattle.reassembly.proofs.Joined.{length-room}
+use Rattle.reassembly.proofs.Joined.{length-room, le-inside, inside-length, none-all}
 use Rattle.reassembly.proofs.Series.{length-series, getD-series, series-set}
 use Rattle.reassembly.proofs.Held.{held-length, not-held, held-le, held-set, all-upto}
 use Rattle.reassembly.proofs.Written.{length-head, head-same, head-entry, length-entry, entry-same, entry-beside, kept-room}
@@ -36,11 +37,21 @@ unfolding tableAt
 table-at rec room i k h = getD-series (pieceAt rec room i) 128 k [] h
 
 module _ (h : Head) (rec room : List ℕ) (i : ℕ) (f : Fine h rec room i) (long : 1048560 ≤ length room) (hi : i < 16) where
+  -- no entry names bytes outside
+  pub never-outside : (k : ℕ) → k < 128 → outside (entryAt rec i k) ≡ false
+  never-outside k hk = le-inside (entryAt rec i k) (omega (arith, f .inside k hk, f .small))
+
+  pub joins-inside : (m n : ℕ) → n ≤ 128 → joinsOutside rec i m n ≡ false
+  unfolding joinsOutside outsideOr
+  joins-inside m n hn = none-all (outsideOr rec i m) n (λ k hk. go k hk (eqb k m))
+    where
+      go : (k : ℕ) → k < n → (b : Bool) → cond b false (outside (entryAt rec i k)) ≡ false
+      go k hk true = refl
+      go k hk false = never-outside k (omega arith)
+
   -- a piece is as long as its entry says
   pub piece-length : (k : ℕ) → k < 128 → length (pieceAt rec room i k) ≡ entryAt rec i k .len
-  unfolding pieceAt
-  piece-length k hk =
-      length-part (roomOf room i) (entryAt rec i k .place) (entryAt rec i k .len) (omega (arith, f .inside k hk, f .small, length-room room i long hi))
+  piece-length k hk = inside-length rec room i k long hi (never-outside k hk)
 
   pub held-is : (k : ℕ) → k < 128 → isHeld (getD (tableAt rec room i) k []) ≡ not (eqb (entryAt rec i k .len) 0)
   held-is k hk = ap isHeld (table-at rec room i k hk) ∙ held-length (pieceAt rec room i k) ∙ ap (λ (n : ℕ). not (eqb n 0)) (piece-length k hk)

@@ -15,7 +15,7 @@ use Rattle.reassembly.specs.Store.{Piece, bytesOf, Message, Store, Answe
 use Rattle.reassembly.specs.Record.{headAt, withHead, pieceAt}
 use Rattle.reassembly.specs.Slots.{isFree}
 use Rattle.reassembly.specs.Judge.{misfits, moreOf, grownBy, isWhole, noHead}
-use Rattle.reassembly.specs.Message.{pieceOr, upTo, messageOf}
+use Rattle.reassembly.specs.Message.{pieceOr, upTo, messageOf, joinsOutside}
 use Rattle.reassembly.specs.Calls.{after, bare, keptRec, keptRoom, finished}
 use Rattle.reassembly.specs.Stands.{series, tableAt, messageWith, slotAt, stands, Fine, Made, labelOf, replyFor, laidOut, Agrees}
 use Rattle.reassembly.proofs.Branches.{good-size}
@@ -23,7 +23,7 @@ use Rattle.reassembly.proofs.Joined.{piece-given, piece-held}
 use Rattle.reassembly.proofs.Series.{series-set}
 use Rattle.reassembly.proofs.Held.{joined-series}
 use Rattle.reassembly.proofs.Written.{length-head, length-kept}
-use Rattle.reassembly.proofs.Kept.{complete-is, kept-long, kept-head, kept-fine, table-kept}
+use Rattle.reassembly.proofs.Kept.{joins-inside, complete-is, kept-long, kept-head, kept-fine, table-kept}
 use Rattle.reassembly.proofs.Others.{Others, others-both, others-head, others-kept, stands-with, made-with, freed-slot, freed-free}
 use Rattle.reassembly.proofs.Answers.{number-small, repeats-free, clashes-free, too-much, good-length, plus-is}
 use Rattle.reassembly.proofs.Stores as Stores
@@ -168,14 +168,18 @@ module _ (h : Head) (rec room : List ℕ) (i : ℕ) (f : Fine h rec room i) (rlo
           made = made-with rec₀ room rec′ room′ i made long-rec′ long-room′ hi o′ (λ e. subst (λ (x : Head). Fine x rec′ room′ i) (sym head′) fine′);
         }
 
+    -- no piece that is joined lies outside
+    joins : joinsOutside rec i (l .number) (g .last + 1) ≡ false
+    joins = joins-inside h rec room i f long hi (l .number) (g .last + 1) (omega (arith, fine′ .last-small))
+
     -- the message is finished
     pub finished-agrees : Made rec room → isWhole g ≡ true → s ≡ stands rec room → Agrees out (finished rec room out i l g v) (answer (length out) s p i m)
     finished-agrees made w es = subst (λ (a : Answer). Agrees out (finished rec room out i l g v) a) (sym (answer-whole w)) (go (ltb (length out) (length (messageOf rec room i (l .number) v (g .last + 1)))) refl)
       where
         go : (b : Bool) → ltb (length out) (length (messageOf rec room i (l .number) v (g .last + 1))) ≡ b
             → Agrees out (finished rec room out i l g v) (cond (tooShort (length out) (plus m p)) (refused 56 s) (record { number = 60; out = some (wholeOf (plus m p)); store = set s i none }))
-        go true e = unfold finished in rw (short-is, e, es) (refusal rec room out 56 made)
-        go false e = unfold finished in rw (short-is, e, es, whole-of)
+        go true e = unfold finished in rw (joins, short-is, e, es) (refusal rec room out 56 made)
+        go false e = unfold finished in rw (joins, short-is, e, es, whole-of)
             (record {
               reply = unfold replyFor in refl;
               delivered = unfold laidOut in refl;

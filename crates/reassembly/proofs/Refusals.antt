@@ -14,7 +14,7 @@ use Rattle.reassembly.specs.declared.Reply.{Reply}
 use Rattle.reassembly.specs.Record.{headAt, entryAt}
 use Rattle.reassembly.specs.Slots.{firstFrom, isOpenAs, isFree}
 use Rattle.reassembly.specs.Judge.{misfits, grownBy, isWhole}
-use Rattle.reassembly.specs.Message.{messageOf}
+use Rattle.reassembly.specs.Message.{messageOf, joinsOutside}
 use Rattle.reassembly.specs.Calls.{After, after, bare, keptRoom, finished, putIn, added, openedIn, openedNow, taken, isShort, badSize, offNumber, firstCall, followOnCall}
 use Rattle.reassembly.specs.Careful.{Careful, CarefulFirst, CarefulFollowOn}
 use Rattle.reassembly.proofs.Branches.{good-size}
@@ -32,9 +32,10 @@ module _ (rec room out : List ℕ) where
     careful-finished : (i : ℕ) (g : Head) → Careful rec room out (finished rec room out i l g v)
     unfolding finished
     careful-finished i g =
-        both (ltb (length out) (length (messageOf rec room i (l .number) v (g .last + 1)))) _ _
+        both (joinsOutside rec i (l .number) (g .last + 1)) _ _ (λ e. refused (bare 59))
+        (λ z. both (ltb (length out) (length (messageOf rec room i (l .number) v (g .last + 1)))) _ _
         (λ e. refused (bare 56))
-        (λ e. record { refusal = inr (inl refl); own-room = inl refl })
+        (λ e. record { refusal = inr (inl refl); own-room = inl refl }))
 
     careful-put : (i : ℕ) → i < 16 → (h : Head) → Careful rec room out (putIn rec room out i h l v)
     unfolding putIn keptRoom bare

@@ -10,11 +10,11 @@ use types.Run.{OneOf}
 use Rattle.wire.specs.Parts.{splice, same}
 use Rattle.reassembly.specs.declared.Head.{Head}
 use Rattle.reassembly.specs.declared.Label.{Label}
-use Rattle.reassembly.specs.Record.{headAt, entryAt, pieceAt}
+use Rattle.reassembly.specs.Record.{headAt, entryAt, outside, pieceAt}
 use Rattle.reassembly.specs.Slots.{firstFrom, isOpenAs, isFree}
 use Rattle.reassembly.specs.Judge.{sameLabel, again, misfits, grownBy, isWhole}
-use Rattle.reassembly.specs.Message.{messageOf}
-use Rattle.reassembly.specs.Calls.{After, bare, finished, putIn, added, openedIn, openedNow, taken, isShort, badSize, offNumber, firstCall, followOnCall, renewed, renewal}
+use Rattle.reassembly.specs.Message.{messageOf, joinsOutside}
+use Rattle.reassembly.specs.Calls.{After, bare, finished, putIn, compared, added, openedIn, openedNow, taken, isShort, badSize, offNumber, firstCall, followOnCall, renewed, renewal}
 
 -- kept and finished, then the refusals of a first piece, and of a follow-on
 abbrev pub firstNumbers : List ℕ
@@ -31,19 +31,21 @@ both : (b : Bool) (x y : After) → Says x → Says y → Says (cond b x y)
 both true x y p q = p
 both false x y p q = q
 
-says-again : (h : Head) (l : Label) (held v : List ℕ) → OneOf firstNumbers (again h l held v)
-unfolding again
-says-again h l held v = go (sameLabel h l && same held v)
+says-compared : (rec room : List ℕ) (i : ℕ) (h : Head) (l : Label) (v : List ℕ) → OneOf firstNumbers (compared rec room i h l v)
+unfolding compared again
+says-compared rec room i h l v = go (outside (entryAt rec i (l .number))) (sameLabel h l && same (pieceAt rec room i (l .number)) v)
   where
-    go : (b : Bool) → OneOf firstNumbers (cond b 54 55)
-    go true = inr (inr (inr (inr (inr (inl refl)))))
-    go false = inr (inr (inr (inr (inr (inr (inl refl))))))
+    go : (o b : Bool) → OneOf firstNumbers (cond o 59 (cond b 54 55))
+    go true b = inr (inr (inr (inr (inr (inr (inr (inr refl)))))))
+    go false true = inr (inr (inr (inr (inr (inl refl)))))
+    go false false = inr (inr (inr (inr (inr (inr (inl refl))))))
 
 module _ (rec room out : List ℕ) (l : Label) (v : List ℕ) where
   says-finished : (i : ℕ) (g : Head) → Says (finished rec room out i l g v)
   unfolding finished bare
   says-finished i g =
-      both (ltb (length out) (length (messageOf rec room i (l .number) v (g .last + 1)))) _ _ (inr (inr (inr (inr (inr (inr (inr (inl refl)))))))) (inr (inl refl))
+      both (joinsOutside rec i (l .number) (g .last + 1)) _ _ (inr (inr (inr (inr (inr (inr (inr (inr refl))))))))
+      (both (ltb (length out) (length (messageOf rec room i (l .number) v (g .last + 1)))) _ _ (inr (inr (inr (inr (inr (inr (inr (inl refl)))))))) (inr (inl refl)))
 
   says-put : (i : ℕ) (h : Head) → Says (putIn rec room out i h l v)
   unfolding putIn bare
@@ -56,7 +58,7 @@ module _ (rec room out : List ℕ) (l : Label) (v : List ℕ) where
   says-added i =
       both (eqb (entryAt rec i (l .number) .len) 0) _ _
       (both (misfits (headAt rec i) l) _ _ (inr (inr (inr (inr (inr (inr (inl refl))))))) (says-put i (headAt rec i)))
-      (says-again (headAt rec i) l (pieceAt rec room i (l .number)) v)
+      (says-compared rec room i (headAt rec i) l v)
 
   says-taken : (second : ℕ) → Says (taken rec room out l second v)
   unfolding taken openedNow openedIn bare

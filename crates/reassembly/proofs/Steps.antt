@@ -12,14 +12,14 @@ use Rattle.wire.specs.Parts.{same}
 use Rattle.reassembly.specs.declared.Head.{Head}
 use Rattle.reassembly.specs.declared.Label.{Label}
 use Rattle.reassembly.specs.Store.{Piece, first, follow, idOf, bytesOf, Message, Store, isHeld, findId, findFree, placeOf, messageOr, plus, badLength, badNumber, repeats, clashes, refused, answer, step}
-use Rattle.reassembly.specs.Record.{headAt, entryAt, pieceAt, cleared}
+use Rattle.reassembly.specs.Record.{headAt, entryAt, outside, pieceAt, cleared}
 use Rattle.reassembly.specs.Slots.{firstFrom, isOpenAs, isFree}
 use Rattle.reassembly.specs.Judge.{sameLabel, again, misfits, grownBy, isWhole, newHead}
-use Rattle.reassembly.specs.Calls.{After, after, bare, keptRec, keptRoom, putIn, added, openedIn, openedNow, taken, isShort, badSize, offNumber, firstCall, followOnCall}
+use Rattle.reassembly.specs.Calls.{After, after, bare, keptRec, keptRoom, putIn, compared, added, openedIn, openedNow, taken, isShort, badSize, offNumber, firstCall, followOnCall}
 use Rattle.reassembly.specs.Stands.{series, tableAt, messageWith, slotAt, stands, Fine, Made, labelOf, Agrees}
 use Rattle.reassembly.proofs.Series.{length-series, getD-series, isNone, hasId, found-is, vacant-is, first-passes, free-none}
 use Rattle.reassembly.proofs.Written.{length-cleared}
-use Rattle.reassembly.proofs.Kept.{held-is}
+use Rattle.reassembly.proofs.Kept.{never-outside, held-is}
 use Rattle.reassembly.proofs.Others.{Others, others-cleared}
 use Rattle.reassembly.proofs.Answers.{label-id, number-small, repeats-held, repeats-free, clashes-held, clashes-free, good-length}
 use Rattle.reassembly.proofs.Refines.{refusal, size-of, answer-53, answer-kept, kept-agrees, finished-agrees}
@@ -77,18 +77,21 @@ module _ (rec room out : List ℕ) (made : Made rec room) (p : Piece) (second : 
             (kept-agrees h rec room i f (made .record-long) (made .room-long) hi p gl gn (fit .expires) free ok out s (ltb-false 65535 (h .total + length v) e) rec made (others-none rec room i))
 
     added-agrees : Agrees out (added rec room out i l v) (answer (length out) s p i m)
-    unfolding added again answer
+    unfolding added compared again answer
     added-agrees = go (eqb (entryAt rec i (l .number) .len) 0) refl
       where
+        inside : outside (entryAt rec i (l .number)) ≡ false
+        inside = never-outside h rec room i f (made .room-long) hi (l .number) (number-small p gn)
+
         repeated : (c : Bool) → isHeld (getD (tableAt rec room i) (l .number) []) ≡ true → (sameLabel h l && same (pieceAt rec room i (l .number)) v) ≡ c
-            → Agrees out (after (bare (again h l (pieceAt rec room i (l .number)) v)) rec room out) (answer (length out) s p i m)
+            → Agrees out (after (bare (compared rec room i h l v)) rec room out) (answer (length out) s p i m)
         repeated true t q =
             let r : repeats m p ≡ true = repeats-held h rec room i f (made .room-long) hi p gn t ∙ q in
-            rw (q, gl, gn, r) (refusal rec room out 54 made)
+            rw (inside, q, gl, gn, r) (refusal rec room out 54 made)
         repeated false t q =
             let r : repeats m p ≡ false = repeats-held h rec room i f (made .room-long) hi p gn t ∙ q in
             let c : clashes m p ≡ true = clashes-held h rec room i f (made .room-long) hi p gn t in
-            rw (q, gl, gn, r, c) (refusal rec room out 55 made)
+            rw (inside, q, gl, gn, r, c) (refusal rec room out 55 made)
 
         fitting : (c : Bool) → isHeld (getD (tableAt rec room i) (l .number) []) ≡ false → misfits h l ≡ c
             → Agrees out (cond (misfits h l) (after (bare 55) rec room out) (putIn rec room out i h l v)) (answer (length out) s p i m)

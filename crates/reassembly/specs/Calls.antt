@@ -8,9 +8,9 @@ use Rattle.wire.specs.Parts.{splice}
 use Rattle.reassembly.specs.declared.Head.{Head}
 use Rattle.reassembly.specs.declared.Label.{Label}
 use Rattle.reassembly.specs.declared.Reply.{Reply}
-use Rattle.reassembly.specs.Record.{headAt, withHead, entryAt, withEntry, cleared, pieceAt}
+use Rattle.reassembly.specs.Record.{headAt, withHead, entryAt, withEntry, cleared, outside, pieceAt}
 use Rattle.reassembly.specs.Slots.{firstFrom, isOpenAs, isFree}
-use Rattle.reassembly.specs.Message.{messageOf}
+use Rattle.reassembly.specs.Message.{messageOf, joinsOutside}
 use Rattle.reassembly.specs.Judge.{again, misfits, grownBy, isWhole, newHead, noHead, isOld}
 
 -- What a call leaves: its reply, and the record, the room and the assembly buffer.
@@ -34,16 +34,18 @@ keptRec rec i k total n g = withHead (withEntry rec i k (record { place = total;
 unfoldable pub keptRoom : List ℕ → ℕ → ℕ → List ℕ → List ℕ
 keptRoom room i total v = splice room (i * 65535 + total) v
 
--- the message is finished by v as the label's number: 56, or it comes out and its slot is free
+-- the message is finished by v as the label's number: 59, or 56, or it comes out and its slot is free
 unfoldable pub finished : List ℕ → List ℕ → List ℕ → ℕ → Label → Head → List ℕ → After
 finished rec room out i l g v =
-    cond (ltb (length out) (length (messageOf rec room i (l .number) v (g .last + 1))))
+    cond (joinsOutside rec i (l .number) (g .last + 1))
+    (after (bare 59) rec room out)
+    (cond (ltb (length out) (length (messageOf rec room i (l .number) v (g .last + 1))))
     (after (bare 56) rec room out)
     (after
     (record { number = 60; kind = g .kind; expires = g .expires; length = length (messageOf rec room i (l .number) v (g .last + 1)) })
     (withHead rec i noHead)
     room
-    (splice out 0 (messageOf rec room i (l .number) v (g .last + 1))))
+    (splice out 0 (messageOf rec room i (l .number) v (g .last + 1)))))
 
 -- the piece fits slot i, whose head is h: 53, or the message is finished, or the piece is kept
 unfoldable pub putIn : List ℕ → List ℕ → List ℕ → ℕ → Head → Label → List ℕ → After
@@ -54,12 +56,16 @@ putIn rec room out i h l v =
     (finished rec room out i l (grownBy h l (length v)) v)
     (after (bare 0) (keptRec rec i (l .number) (h .total) (length v) (grownBy h l (length v))) (keptRoom room i (h .total) v) out))
 
--- a piece of the open message of slot i: 54 or 55, or it is put
+-- a piece whose number is held in slot i, whose head is h: 59 where the record names bytes outside for the held one, else 54 or 55
+unfoldable pub compared : List ℕ → List ℕ → ℕ → Head → Label → List ℕ → ℕ
+compared rec room i h l v = cond (outside (entryAt rec i (l .number))) 59 (again h l (pieceAt rec room i (l .number)) v)
+
+-- a piece of the open message of slot i: it is compared with the held one, or 55, or it is put
 unfoldable pub added : List ℕ → List ℕ → List ℕ → ℕ → Label → List ℕ → After
 added rec room out i l v =
     cond (eqb (entryAt rec i (l .number) .len) 0)
     (cond (misfits (headAt rec i) l) (after (bare 55) rec room out) (putIn rec room out i (headAt rec i) l v))
-    (after (bare (again (headAt rec i) l (pieceAt rec room i (l .number)) v)) rec room out)
+    (after (bare (compared rec room i (headAt rec i) l v)) rec room out)
 
 -- a piece of a message that is not open is kept in the free slot i
 unfoldable pub openedIn : List ℕ → List ℕ → List ℕ → ℕ → Label → ℕ → List ℕ → After

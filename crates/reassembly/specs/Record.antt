@@ -1,6 +1,8 @@
 -- The store's record in bytes: 16 heads of 24 bytes, then 16 tables of 128 entries of 4 bytes; and the pieces in the room.
+use mathlib.Core.Bool.{Bool}
 use mathlib.Core.List.{List, [], _∷_, _++_}
 use Prim.Native.Nat.{ℕ, _+_, _*_}
+use lib.Dec.{ltb}
 use lib.ListN.{getD, replicate}
 use Rattle.wire.specs.Parts.{part, splice}
 use Rattle.wire.specs.Numbers.{littleAt, littleBytes}
@@ -42,7 +44,11 @@ withEntry rec i k e = splice rec (384 + i * 512 + k * 4) (entryBytes e)
 unfoldable pub cleared : List ℕ → ℕ → List ℕ
 cleared rec i = splice rec (384 + i * 512) (replicate 512 0)
 
--- slot i's own room, and the bytes that the entry of number k names there: a part, so never a byte outside
+-- an entry names bytes outside its slot's 65,535
+unfoldable pub outside : Entry → Bool
+outside e = ltb 65535 (e .place + e .len)
+
+-- slot i's own room, and the bytes that the entry of number k names there
 unfoldable pub roomOf : List ℕ → ℕ → List ℕ
 roomOf room i = part room (i * 65535) 65535
 

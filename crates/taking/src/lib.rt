@@ -10,7 +10,7 @@ ghost use mathlib.Core.Path.{_≡_};
 ghost use mathlib.Core.List.{List};
 ghost use Prim.Native.Nat.{ℕ, _+_, _<_, _≤_};
 ghost use lib.ListN.{length};
-ghost use Rattle.reassembly.specs.Calls.{after, bare, keptRec, keptRoom, finished, putIn, added, openedIn, openedNow, taken};
+ghost use Rattle.reassembly.specs.Calls.{after, bare, keptRec, keptRoom, finished, putIn, compared, added, openedIn, openedNow, taken};
 
 pub fn bare(n: u8) -> Reply
     ensures { λ r. ⌜ r ≡ bare n ⌝ }
@@ -43,7 +43,7 @@ fn keep(rec: &mut [u8], room: &mut [u8], i: usize, k: usize, total: u16, g: Head
     records::save_head(rec, i, g);
 }
 
-// The message of slot i, finished by the piece: 56, or it is put to the start of out and its slot is free.
+// The message of slot i, finished by the piece: 59, or 56, or it is put to the start of out and its slot is free.
 fn finish(
     rec: &mut [u8],
     room: &[u8],
@@ -58,8 +58,11 @@ fn finish(
 {
     let k = usize_from_u8(l.number);
     let last = usize_from_u8(g.last);
-    let n = pieces::size(rec, room, i, k, bytes, last);
-    if out.len() < n {
+    let m = pieces::measure(rec, i, k, bytes, last);
+    if m.outside {
+        return bare(59);
+    }
+    if out.len() < m.size {
         return bare(56);
     }
     pieces::assemble(rec, room, out, i, k, bytes, last);
@@ -68,7 +71,7 @@ fn finish(
         number: 60,
         kind: g.kind,
         expires: g.expires,
-        length: n,
+        length: m.size,
     }
 }
 
@@ -97,7 +100,20 @@ fn put(
     bare(0)
 }
 
-// A piece of the open message of slot i: 54 or 55, or it is put.
+// A piece whose number is held in slot i, whose head is h: 59, or 54 or 55.
+fn compare(rec: &[u8], room: &[u8], i: usize, h: Head, l: Label, bytes: &[u8]) -> u8
+    requires { ⌜ (8576 ≤ length (now rec)) × (1048560 ≤ length (now room)) × (i < 16) × (l .number < 128) ⌝ }
+    ensures { λ r. ⌜ r ≡ compared (now (rec .entry)) (now (room .entry)) i h l (now (bytes .entry)) ⌝ }
+{
+    let k = usize_from_u8(l.number);
+    let e = records::load_entry(rec, i, k);
+    if pieces::outside(e) {
+        return 59;
+    }
+    judge::again(h, l, pieces::piece(rec, room, i, k), bytes)
+}
+
+// A piece of the open message of slot i: it is compared with the held one, or 55, or it is put.
 fn add(rec: &mut [u8], room: &mut [u8], out: &mut [u8], i: usize, l: Label, bytes: &[u8]) -> Reply
     requires { ⌜ (8576 ≤ length (now rec)) × (1048560 ≤ length (now room)) × (i < 16) × (l .number < 128) × (length (now bytes) ≤ 1500) ⌝ }
     ensures { λ r. ⌜ after r (now (rec .exit)) (now (room .exit)) (now (out .exit)) ≡ added (now (rec .entry)) (now (room .entry)) (now (out .entry)) i l (now (bytes .entry)) ⌝ }
@@ -106,7 +122,7 @@ fn add(rec: &mut [u8], room: &mut [u8], out: &mut [u8], i: usize, l: Label, byte
     let k = usize_from_u8(l.number);
     let e = records::load_entry(rec, i, k);
     if e.len != 0 {
-        return bare(judge::again(h, l, pieces::piece(rec, room, i, k), bytes));
+        return bare(compare(rec, room, i, h, l, bytes));
     }
     if judge::misfits(h, l) {
         return bare(55);

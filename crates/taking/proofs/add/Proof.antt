@@ -13,11 +13,8 @@ usize-from-u8-requires c κs = search needs
 load-entry-requires : tie.Need-load-entry-requires
 load-entry-requires c κs = search needs
 
-piece-requires : tie.Need-piece-requires
-piece-requires c κs = search needs
-
-again-requires : tie.Need-again-requires
-again-requires c κs = search needs
+compare-requires : tie.Need-compare-requires
+compare-requires c κs = search needs
 
 bare-requires : tie.Need-bare-requires
 bare-requires c κs = search needs
@@ -30,8 +27,8 @@ same-length-2 c = search needs
 
 returns : tie.Need-returns
 returns c =
-    let a = c .before .before .before .before .before .before .before .before .before .before .before .before .before .before .before .before .args in
-    added-again (a .rec .now) (a .room .now) (a .out .now) (a .i) (a .l) (a .bytes .now) (c .before .before .before .before .before .before .before .before .before .before .load-head .result) (c .before .before .before .before .before .before .before .before .before .usize-from-u8 .result) (c .before .before .before .before .before .before .before .load-entry .result) (c .before .before .before .before .before .before .before .before .before .before .load-head .ensures) (c .before .before .before .before .before .before .before .before .before .usize-from-u8 .ensures .0) (c .before .before .before .before .before .before .before .load-entry .ensures) (c .bare .result) (c .before .again .result) (c .before .before .piece .result .now) (c .before .before .before .before .before .if1 .taken) (c .before .before .piece .ensures) (c .before .again .ensures) (c .bare .ensures)
+    let a = c .before .before .before .before .before .before .before .before .before .before .before .before .before .before .before .args in
+    added-again (a .rec .now) (a .room .now) (a .out .now) (a .i) (a .l) (a .bytes .now) (c .before .before .before .before .before .before .before .before .before .load-head .result) (c .before .before .before .before .before .before .before .before .usize-from-u8 .result) (c .before .before .before .before .before .before .load-entry .result) (c .before .before .before .before .before .before .before .before .before .load-head .ensures) (c .before .before .before .before .before .before .before .before .usize-from-u8 .ensures .0) (c .before .before .before .before .before .before .load-entry .ensures) (c .bare .result) (c .before .compare .result) (c .before .before .before .before .if1 .taken) (c .before .compare .ensures) (c .bare .ensures)
 
 misfits-requires : tie.Need-misfits-requires
 misfits-requires c κs = search needs
@@ -71,8 +68,7 @@ add-spec =
     load-head-requires
     usize-from-u8-requires
     load-entry-requires
-    piece-requires
-    again-requires
+    compare-requires
     bare-requires
     same-length
     same-length-2

@@ -6,8 +6,8 @@ use mathlib.Core.Path.{_≡_, refl, sym, ap, _∙_}
 use Prim.Native.Nat.{ℕ, _≤_, _-_, _+_}
 use Rattle.wire.specs.Parts.{splice}
 use Rattle.wire.proofs.Slices.{splice-none}
-use Rattle.reassembly.specs.Message.{pieceOr, upTo, messageOf}
-use Rattle.reassembly.proofs.Joined.{more-length, more-mono, laid-turn}
+use Rattle.reassembly.specs.Message.{pieceOr, upTo, messageOf, outsideOr, joinsOutside}
+use Rattle.reassembly.proofs.Joined.{more-length, more-mono, laid-turn, none-of}
 use Rattle.slots.proofs.pieces.assemble.Statement.{statement}
 use Rattle.slots.proofs.pieces.assemble.Tie as tie
 
@@ -21,13 +21,13 @@ loop-holds : tie.Need-loop-holds Inv-loop μ-loop
 loop-holds c = (search needs, refl, refl, sym (splice-none (c .before .before .before .before .args .out .now) 0))
 
 lay-down-requires : tie.Need-lay-down-requires Inv-loop μ-loop
-unfolding messageOf
+unfolding messageOf joinsOutside
 lay-down-requires c κs =
     let a = c .before .before .before .before .before .before .before .args in
     let f : ℕ → List ℕ = pieceOr (a .rec .now) (a .room .now) (a .i) (a .m) (a .v .now) in
     let k = c .before .before .loop .k in
     let h : length (upTo f (k + 1)) ≤ length (a .out .now) = omega (arith, more-mono f (k + 1) (a .last + 1) (omega arith)) in
-    (omega arith, omega arith, omega arith, omega arith, omega (arith, more-length f k))
+    (omega arith, omega arith, omega arith, omega arith, none-of (outsideOr (a .rec .now) (a .i) (a .m)) (a .last + 1) k (omega arith) (c .before .before .before .before .before .before .before .pre .4), omega (arith, more-length f k))
 
 add-k : tie.Need-add-k Inv-loop μ-loop
 add-k c = search needs

@@ -5,7 +5,7 @@ use native.Mathlib.Omega.{arith}
 use lib.ListN.{length}
 use Rattle.wire.specs.Parts.{splice}
 use Rattle.reassembly.specs.Message.{pieceOr}
-use Rattle.reassembly.proofs.Joined.{piece-given, piece-held}
+use Rattle.reassembly.proofs.Joined.{piece-given, piece-held, outside-held}
 use borrow.Author.Needs.{needs}
 use Rattle.slots.proofs.pieces.lay_down.Statement.{statement}
 use Rattle.slots.proofs.pieces.lay_down.Tie as tie
@@ -29,7 +29,11 @@ returns c =
     (ap (λ (z : List ℕ). a .at + length z) (sym e), c .before .before .copy-to .ensures ∙ ap (splice (a .out .now) (a .at)) (sym e))
 
 piece-requires : tie.Need-piece-requires
-piece-requires c κs = search needs
+piece-requires c κs =
+    let start = c .before .before .before .before .before in
+    let a = start .args in
+    let o = outside-held (a .rec .now) (a .i) (a .m) (a .k) (c .if1 .left) in
+    (search needs, search needs, search needs, search needs, sym o ∙ start .pre .4)
 
 copy-to-requires-2 : tie.Need-copy-to-requires-2
 copy-to-requires-2 c κs =

@@ -1,12 +1,12 @@
 use mathlib.Core.Path.{_≡_, ap, _∙_}
 use mathlib.Core.List.{List}
-use Prim.Native.Nat.{ℕ, _+_, _-_, _*_}
+use Prim.Native.Nat.{ℕ, _+_, _-_, _*_, _≤_}
 use native.Mathlib.Omega.{arith}
 use lib.ListN.{take, drop}
 use Rattle.wire.specs.Parts.{part}
 use Rattle.wire.proofs.Slices.{slice-is}
-use Rattle.reassembly.specs.Record.{roomOf, pieceAt}
-use Rattle.reassembly.proofs.Joined.{piece-cut}
+use Rattle.reassembly.specs.Record.{outside, roomOf, pieceAt}
+use Rattle.reassembly.proofs.Joined.{inside-le}
 use borrow.Author.Needs.{needs}
 use Rattle.slots.proofs.pieces.piece.Statement.{statement}
 use Rattle.slots.proofs.pieces.piece.Tie as tie
@@ -19,9 +19,6 @@ usize-from-u16-requires c κs = search needs
 
 usize-from-u16-requires-2 : tie.Need-usize-from-u16-requires-2
 usize-from-u16-requires-2 c κs = search needs
-
-cut-requires : tie.Need-cut-requires
-cut-requires c κs = search needs
 
 mul-a : tie.Need-mul-a
 mul-a c = search needs
@@ -48,22 +45,20 @@ part-result-start : tie.Need-part-result-start
 part-result-start c = search needs
 
 part-result-end : tie.Need-part-result-end
-part-result-end c = search needs
+part-result-end c =
+    let e = c .before .before .before .load-entry in
+    let q : e .result .place + e .result .len ≤ 65535 = inside-le (e .result) (ap outside (e .ensures) ∙ c .before .before .before .before .before .before .pre .4) in
+    search needs
 
 returns : tie.Need-returns
 unfolding roomOf pieceAt
 returns c =
-    let a = c .before .before .before .before .before .before .before .before .args in
-    let p = c .before .before .before .before .usize-from-u16 .result in
-    let n = c .before .before .before .usize-from-u162 .result in
-    let r = c .before .before .cut .result in
+    let a = c .before .before .before .before .before .before .before .args in
+    let p = c .before .before .before .usize-from-u16 .result in
+    let n = c .before .before .usize-from-u162 .result in
     let b : ℕ = a .i * 65535 in
-    let q : part (roomOf (a .room .now) (a .i)) p r ≡ part (roomOf (a .room .now) (a .i)) p n =
-    piece-cut (a .room .now) (a .i) p n r (omega arith) (omega arith) (omega arith) (c .before .before .cut .ensures)
-    in
-    ap (λ (z : List ℕ). take (p + r - p) (drop p z)) (slice-is (a .room .now) b 65535)
-    ∙ slice-is (part (a .room .now) b 65535) p r
-    ∙ q
+    ap (λ (z : List ℕ). take (p + n - p) (drop p z)) (slice-is (a .room .now) b 65535)
+    ∙ slice-is (part (a .room .now) b 65535) p n
     ∙ cc
 
 pub piece-spec : {M : Type 1} → statement M
@@ -73,7 +68,6 @@ piece-spec =
     load-entry-requires
     usize-from-u16-requires
     usize-from-u16-requires-2
-    cut-requires
     mul-a
     add-b
     add-q
