@@ -1,17 +1,19 @@
 -- Demand 3 of the calls, carried over from the store by the calls' promises. Assumes nothing.
 use mathlib.Core.Path.{_≡_, refl, sym, ap, _∙_, subst}
 use mathlib.Core.List.{List, [], _∷_, map}
-use Prim.Native.Nat.{ℕ, zero, suc, _<_}
+use Prim.Native.Nat.{ℕ, zero, suc, _≤_, _<_}
+use native.Mathlib.Omega.{arith}
 use lib.Dec.{eqb}
 use lib.ListN.{length, getD}
 use Rattle.reassembly.specs.Store.{Piece, first, follow, Store, step}
 use Rattle.reassembly.specs.Calls.{renewed}
 use Rattle.reassembly.specs.Stands.{stands, Made, Agrees, laidOut}
 use Rattle.reassembly.proofs.Steps.{Fits, first-agrees, follow-agrees}
+use Rattle.reassembly.proofs.Stores.{step-enough}
 use Rattle.reassembly.proofs.Sweeps.{new-stands, new-made, zeros-stand, zeros-made}
 use Rattle.reassembly.proofs.Agreed.{fits-first, fits-follow, sweep-agrees}
 use Rattle.promises.specs.Demand3.{Cut, pieceOf, noCut, Event, deliver, tidy, start, due, times, act, saidOf, said, final, Outcome}
-use Rattle.promises.specs.Demand3Calls.{pieceCall, called, calls, lastly, replyDue, buffersDue, secondOf, Demand3Calls, StoreStarts, Demand3Again, Demand3New}
+use Rattle.promises.specs.Demand3Calls.{pieceCall, called, calls, lastly, replyDue, buffersDue, secondOf, LongEnough, Demand3Calls, StoreStarts, Demand3Again, Demand3New}
 use Rattle.promises.proofs.Demand3.{demand3}
 
 piece-agrees : (rec room out : List ℕ) → Made rec room → (p : Piece) (second : ℕ) → Fits p second → Agrees out (pieceCall rec room out p second) (step (length out) (stands rec room) p second)
@@ -30,42 +32,48 @@ unfolding called act
 event-agrees cs rec room out m hi hx (deliver c i now) hs = piece-agrees rec room out m (pieceOf (getD cs c noCut) i) now (piece-fits (getD cs c noCut) i now (hi c) (hx c) hs)
 event-agrees cs rec room out m hi hx (tidy now) hs = sweep-agrees now rec room out m
 
-module _ (cap : ℕ) (outs : ℕ → List ℕ) (long : (n : ℕ) → length (outs n) ≡ cap) (cs : List Cut)
+-- an assembly buffer of 65,535 bytes is as good as a longer one
+pub act-enough : (cap : ℕ) → 65535 ≤ cap → (cs : List Cut) (s : Store) (e : Event) → act cap cs s e ≡ act 65535 cs s e
+unfolding act
+act-enough cap h cs s (deliver c i now) = step-enough cap h s (pieceOf (getD cs c noCut) i) now
+act-enough cap h cs s (tidy now) = refl
+
+module _ (outs : ℕ → List ℕ) (long : LongEnough outs) (cs : List Cut)
     (hi : (c : ℕ) → getD cs c noCut .id < 4294967296) (hx : (c : ℕ) → getD cs c noCut .expires < 4294967296) where
-  event-at : (n : ℕ) (rec room : List ℕ) → Made rec room → (e : Event) → secondOf e < 18446744073709551616 → Agrees (outs n) (called cs rec room (outs n) e) (act cap cs (stands rec room) e)
+  event-at : (n : ℕ) (rec room : List ℕ) → Made rec room → (e : Event) → secondOf e < 18446744073709551616 → Agrees (outs n) (called cs rec room (outs n) e) (act 65535 cs (stands rec room) e)
   event-at n rec room m e hs =
-      subst (λ (k : ℕ). Agrees (outs n) (called cs rec room (outs n) e) (act k cs (stands rec room) e)) (long n) (event-agrees cs rec room (outs n) m hi hx e hs)
+      subst (Agrees (outs n) (called cs rec room (outs n) e)) (act-enough (length (outs n)) (long n) cs (stands rec room) e) (event-agrees cs rec room (outs n) m hi hx e hs)
 
   runs : (es : List Event) (n : ℕ) (rec room : List ℕ) → Made rec room → ((k : ℕ) → secondOf (getD es k (tidy 0)) < 18446744073709551616)
-      → (map (λ x. x .reply) (calls cs outs n rec room es) ≡ map replyDue (said cap cs (stands rec room) es))
-      × (map (λ x. x .out) (calls cs outs n rec room es) ≡ buffersDue outs n (said cap cs (stands rec room) es))
-      × (stands (lastly cs outs n rec room es .rec) (lastly cs outs n rec room es .room) ≡ final cap cs (stands rec room) es)
+      → (map (λ x. x .reply) (calls cs outs n rec room es) ≡ map replyDue (said 65535 cs (stands rec room) es))
+      × (map (λ x. x .out) (calls cs outs n rec room es) ≡ buffersDue outs n (said 65535 cs (stands rec room) es))
+      × (stands (lastly cs outs n rec room es .rec) (lastly cs outs n rec room es .room) ≡ final 65535 cs (stands rec room) es)
       × Made (lastly cs outs n rec room es .rec) (lastly cs outs n rec room es .room)
   runs [] n rec room m hs = (refl, refl, refl, m)
   runs (e ∷ es) n rec room m hs =
-      let a : Agrees (outs n) (called cs rec room (outs n) e) (act cap cs (stands rec room) e) = event-at n rec room m e (hs 0) in
+      let a : Agrees (outs n) (called cs rec room (outs n) e) (act 65535 cs (stands rec room) e) = event-at n rec room m e (hs 0) in
       let ih = runs es (suc n) (called cs rec room (outs n) e .rec) (called cs rec room (outs n) e .room) (a .made) (λ k. hs (suc k)) in
-      (rw (reply-is e rec room a, ih .0, a .store) refl, rw (out-is e rec room a, ih .1, a .store) refl, ih .2 ∙ ap (λ (s : Store). final cap cs s es) (a .store), ih .3)
+      (rw (reply-is e rec room a, ih .0, a .store) refl, rw (out-is e rec room a, ih .1, a .store) refl, ih .2 ∙ ap (λ (s : Store). final 65535 cs s es) (a .store), ih .3)
     where
-      reply-is : (e : Event) (rec room : List ℕ) → Agrees (outs n) (called cs rec room (outs n) e) (act cap cs (stands rec room) e)
-          → called cs rec room (outs n) e .reply ≡ replyDue (saidOf (act cap cs (stands rec room) e))
+      reply-is : (e : Event) (rec room : List ℕ) → Agrees (outs n) (called cs rec room (outs n) e) (act 65535 cs (stands rec room) e)
+          → called cs rec room (outs n) e .reply ≡ replyDue (saidOf (act 65535 cs (stands rec room) e))
       reply-is e rec room a = unfold replyDue saidOf in a .reply
 
-      out-is : (e : Event) (rec room : List ℕ) → Agrees (outs n) (called cs rec room (outs n) e) (act cap cs (stands rec room) e)
-          → called cs rec room (outs n) e .out ≡ laidOut (outs n) (saidOf (act cap cs (stands rec room) e) .out)
+      out-is : (e : Event) (rec room : List ℕ) → Agrees (outs n) (called cs rec room (outs n) e) (act 65535 cs (stands rec room) e)
+          → called cs rec room (outs n) e .out ≡ laidOut (outs n) (saidOf (act 65535 cs (stands rec room) e) .out)
       out-is e rec room a = unfold saidOf in a .delivered
 
 -- Demand 3, of the calls
 pub demand3-calls : Demand3Calls
-demand3-calls cap hc outs long rec room m z cs within es narrow q =
-    let o : Outcome cap cs es = demand3 cap hc cs within es q in
-    let r = runs cap outs long cs (narrow .ids) (narrow .expirations) es 0 rec room m (narrow .seconds) in
-    let d : said cap cs (stands rec room) es ≡ due cs (start cs) es = ap (λ (s : Store). said cap cs s es) z ∙ o .as-due in
+demand3-calls outs long rec room m z cs within es narrow q =
+    let o : Outcome 65535 cs es = demand3 65535 (omega arith) cs within es q in
+    let r = runs outs long cs (narrow .ids) (narrow .expirations) es 0 rec room m (narrow .seconds) in
+    let d : said 65535 cs (stands rec room) es ≡ due cs (start cs) es = ap (λ (s : Store). said 65535 cs s es) z ∙ o .as-due in
     record {
       replies = r .0 ∙ ap (map replyDue) d;
       buffers = r .1 ∙ ap (buffersDue outs 0) d;
       once = λ c h. ap (times c es) (sym (o .as-due)) ∙ o .once c h;
-      ends-empty = r .2 ∙ ap (λ (s : Store). final cap cs s es) z ∙ o .ends-empty;
+      ends-empty = r .2 ∙ ap (λ (s : Store). final 65535 cs s es) z ∙ o .ends-empty;
       made = r .3;
     }
 
@@ -73,12 +81,12 @@ demand3-calls cap hc outs long rec room m z cs within es narrow q =
 pub store-starts : StoreStarts
 store-starts =
     record {
-      new = λ rec room lr lm. (new-made rec room lr lm, new-stands rec room lr lm);
-      zero-filled = λ n room lr lm. (zeros-made n room lr lm, zeros-stand n room lr lm);
+      new = λ rec room lr lm. (new-made rec room lr lm, new-stands rec room lr);
+      zero-filled = λ n room lr lm. (zeros-made n room lr lm, zeros-stand n room lr);
     }
 
 pub demand3-again : Demand3Again
-demand3-again cap outs outs′ hc long rec room cs es o ds within fs narrow q = demand3-calls cap hc outs′ long _ _ (o .made) (o .ends-empty) ds within fs narrow q
+demand3-again outs outs′ long rec room cs es o ds within fs narrow q = demand3-calls outs′ long _ _ (o .made) (o .ends-empty) ds within fs narrow q
 
 pub demand3-new : Demand3New
-demand3-new cap outs hc long rec room lr lm = demand3-calls cap hc outs long (renewed rec) room (store-starts .new rec room lr lm .0) (store-starts .new rec room lr lm .1)
+demand3-new outs long rec room lr lm = demand3-calls outs long (renewed rec) room (store-starts .new rec room lr lm .0) (store-starts .new rec room lr lm .1)

@@ -16,6 +16,7 @@ use Rattle.blocks.proofs.Faults.{first-whole, follow-on-whole}
 use Rattle.blocks.proofs.WriteThenRead.{write-then-read}
 use Rattle.reassembly.specs.Store.{Piece, first, follow, Store, Whole, step}
 use Rattle.reassembly.specs.Stands.{stands, Made, laidOut}
+use Rattle.reassembly.proofs.Stores.{step-enough}
 use Rattle.reassembly.proofs.Sweeps.{sweep-stands, sweep-made}
 use Rattle.messages.specs.declared.Received.{Received}
 use Rattle.messages.specs.Delivery.{Left, deliveredBy}
@@ -26,7 +27,7 @@ use Rattle.outcomes.specs.Outcomes.{outcome}
 use Rattle.outcomes.specs.Deliveries.{deliveryOutcome, deliveryNumbers, deliveredAt}
 use Rattle.outcomes.proofs.DeliveryLaws.{told-kept, told-refused, told-finished}
 use Rattle.promises.specs.Demand3.{Cut, pieceOf, cutFrom, noCut, Event, deliver, tidy, Tally, noTally, done, marked, start, note, Said, dueOne, due, times, act, saidOf, said, final, Outcome as Result}
-use Rattle.promises.specs.Demand3Calls.{secondOf}
+use Rattle.promises.specs.Demand3Calls.{secondOf, LongEnough}
 use Rattle.promises.specs.Demand3Deliveries.{Carries, Loan, HandedOne, Handed, Tells, handed, tellings, lastRec, lastRoom, outcomeDue, toldOf, toldDue, tellsDue, allDue, Demand3Deliveries, WrittenIsHanded}
 use Rattle.promises.proofs.Demand3.{demand3}
 
@@ -98,23 +99,23 @@ delivery-tells l x d id calm r o =
     let b : deliveryNumbers (x .received) (l .told) ≡ toldDue id (l .told) d = ap (λ (z : Received). deliveryNumbers z (l .told)) r ∙ t .1 in
     λ i. record { outcome = a i; out = o i; told = b i }
 
-module _ (cap : ℕ) (loans : ℕ → Loan) (long : (n : ℕ) → length (loans n .out) ≡ cap) (cs : List Cut)
+module _ (loans : ℕ → Loan) (long : LongEnough (λ n. loans n .out)) (cs : List Cut)
     (hi : (c : ℕ) → getD cs c noCut .id < 4294967296) (hx : (c : ℕ) → getD cs c noCut .expires < 4294967296) where
   -- one event
   event : (n : ℕ) (rec room : List ℕ) → Made rec room → (e : Event) → secondOf e < 18446744073709551616 → HandedOne cs (loans n) e
-      → (d : Said) → Calm d → saidOf (act cap cs (stands rec room) e) ≡ d
+      → (d : Said) → Calm d → saidOf (act 65535 cs (stands rec room) e) ≡ d
       → (handed (loans n) rec room e .tells ≡ tellsDue cs (loans n) e d)
-      × (stands (handed (loans n) rec room e .rec) (handed (loans n) rec room e .room) ≡ act cap cs (stands rec room) e .store)
+      × (stands (handed (loans n) rec room e .rec) (handed (loans n) rec room e .room) ≡ act 65535 cs (stands rec room) e .store)
       × Made (handed (loans n) rec room e .rec) (handed (loans n) rec room e .room)
   unfolding handed act saidOf tellsDue
-  event n rec room m (tidy now) hs h d calm q = (refl, sweep-stands now rec room m, sweep-made now rec room m)
+  event n rec room m (tidy now) hs h d calm q = (refl, sweep-stands now rec room (m .record-long), sweep-made now rec room m)
   event n rec room m (deliver c i now) hs h d calm q =
       let p = pieceOf (getD cs c noCut) i in
       let l = loans n in
       let x : Left = deliveredAt (l .payload) (l .at) rec room (l .out) now in
-      let o : OfStore (l .payload) (l .at) (getD cs c noCut .id) (l .out) x (step cap (stands rec room) p now) =
-      subst (λ (k : ℕ). OfStore (l .payload) (l .at) k (l .out) x (step cap (stands rec room) p now)) (piece-id (getD cs c noCut) i)
-      (subst (λ (k : ℕ). OfStore (l .payload) (l .at) (idOf p) (l .out) x (step k (stands rec room) p now)) (long n)
+      let o : OfStore (l .payload) (l .at) (getD cs c noCut .id) (l .out) x (step 65535 (stands rec room) p now) =
+      subst (λ (k : ℕ). OfStore (l .payload) (l .at) k (l .out) x (step 65535 (stands rec room) p now)) (piece-id (getD cs c noCut) i)
+      (subst (OfStore (l .payload) (l .at) (idOf p) (l .out) x) (step-enough (length (l .out)) (long n) (stands rec room) p now)
       (carried (l .payload) (l .at) rec room (l .out) p now h (piece-narrow (getD cs c noCut) i (hi c) (hx c)) hs m))
       in (
         delivery-tells l x d (getD cs c noCut .id) calm
@@ -125,28 +126,28 @@ module _ (cap : ℕ) (loans : ℕ → Loan) (long : (n : ℕ) → length (loans 
       )
 
   runs : (es : List Event) (n : ℕ) (ts : List Tally) (rec room : List ℕ) → Made rec room → ((k : ℕ) → secondOf (getD es k (tidy 0)) < 18446744073709551616)
-      → Handed cs loans n es → said cap cs (stands rec room) es ≡ due cs ts es
+      → Handed cs loans n es → said 65535 cs (stands rec room) es ≡ due cs ts es
       → (tellings loans n rec room es ≡ allDue cs loans n es (due cs ts es))
-      × (stands (lastRec loans n rec room es) (lastRoom loans n rec room es) ≡ final cap cs (stands rec room) es)
+      × (stands (lastRec loans n rec room es) (lastRoom loans n rec room es) ≡ final 65535 cs (stands rec room) es)
       × Made (lastRec loans n rec room es) (lastRoom loans n rec room es)
   runs [] n ts rec room m hs h q = (refl, refl, m)
   runs (e ∷ es) n ts rec room m hs h q =
-      let now : saidOf (act cap cs (stands rec room) e) ≡ dueOne cs ts e = cc in
-      let then : said cap cs (act cap cs (stands rec room) e .store) es ≡ due cs (note ts e) es = cc in
+      let now : saidOf (act 65535 cs (stands rec room) e) ≡ dueOne cs ts e = cc in
+      let then : said 65535 cs (act 65535 cs (stands rec room) e .store) es ≡ due cs (note ts e) es = cc in
       let v = event n rec room m e (hs 0) (h .0) (dueOne cs ts e) (due-calm cs ts e) now in
-      let ih = runs es (suc n) (note ts e) (handed (loans n) rec room e .rec) (handed (loans n) rec room e .room) (v .2) (λ k. hs (suc k)) (h .1) (ap (λ (s : Store). said cap cs s es) (v .1) ∙ then) in
-      (rw (v .0, ih .0) refl, ih .1 ∙ ap (λ (s : Store). final cap cs s es) (v .1), ih .2)
+      let ih = runs es (suc n) (note ts e) (handed (loans n) rec room e .rec) (handed (loans n) rec room e .room) (v .2) (λ k. hs (suc k)) (h .1) (ap (λ (s : Store). said 65535 cs s es) (v .1) ∙ then) in
+      (rw (v .0, ih .0) refl, ih .1 ∙ ap (λ (s : Store). final 65535 cs s es) (v .1), ih .2)
 
 -- Demand 3, of the payloads' blocks
 pub demand3-deliveries : Demand3Deliveries
-demand3-deliveries cap hc loans long rec room m z cs within es narrow h q =
-    let o : Result cap cs es = demand3 cap hc cs within es q in
-    let d : said cap cs (stands rec room) es ≡ due cs (start cs) es = ap (λ (s : Store). said cap cs s es) z ∙ o .as-due in
-    let r = runs cap loans long cs (narrow .ids) (narrow .expirations) es 0 (start cs) rec room m (narrow .seconds) h d in
+demand3-deliveries loans long rec room m z cs within es narrow h q =
+    let o : Result 65535 cs es = demand3 65535 (omega arith) cs within es q in
+    let d : said 65535 cs (stands rec room) es ≡ due cs (start cs) es = ap (λ (s : Store). said 65535 cs s es) z ∙ o .as-due in
+    let r = runs loans long cs (narrow .ids) (narrow .expirations) es 0 (start cs) rec room m (narrow .seconds) h d in
     record {
       tells = r .0;
       once = λ c i. ap (times c es) (sym (o .as-due)) ∙ o .once c i;
-      ends-empty = r .1 ∙ ap (λ (s : Store). final cap cs s es) z ∙ o .ends-empty;
+      ends-empty = r .1 ∙ ap (λ (s : Store). final 65535 cs s es) z ∙ o .ends-empty;
       made = r .2;
     }
 

@@ -20,7 +20,7 @@ use Rattle.reassembly.specs.Store.{first, empty, total, idOf, numberOf, finalOf
 use Rattle.reassembly.specs.Stands.{stands, Made, laidOut}
 use Rattle.outcomes.specs.Outcomes.{outcome}
 use Rattle.promises.specs.Demand3.{Cut, Within, pieceOf, cutFrom, noCut, Event, deliver, tidy, Tally, noTally, begun, done, isOpen, marked, untouched, start, note, count, Allowed, Orderly, Schedule, dueOne, act, saidOf, said, Outcome}
-use Rattle.promises.specs.Demand3Calls.{secondOf, Narrow, lastly, OutcomeOfCalls}
+use Rattle.promises.specs.Demand3Calls.{secondOf, Narrow, lastly, OutcomeOfCalls, LongEnough}
 use Rattle.promises.specs.Demand3Deliveries.{Carries, Loan, Handed, Tells, tellings, outcomeDue, toldOf, toldDue, tellsDue, OutcomeOfDeliveries, blockOf, bodyOf}
 use Rattle.promises.proofs.Demand3.{demand3}
 use Rattle.promises.proofs.Demand3Calls.{demand3-calls, store-starts}
@@ -209,12 +209,12 @@ early-at (e ∷ es) h (suc n) = early-at es (and-both (ltb (secondOf e) 18446744
 narrow : Narrow threeCuts mixture
 narrow = record { ids = ids-narrow; expirations = expirations-narrow; seconds = early-at mixture refl }
 
-pub example-calls : (outs : ℕ → List ℕ) → ((n : ℕ) → length (outs n) ≡ 65535) → (rec room : List ℕ) → Made rec room → stands rec room ≡ empty → OutcomeOfCalls threeCuts outs rec room mixture
+pub example-calls : (outs : ℕ → List ℕ) → LongEnough outs → (rec room : List ℕ) → Made rec room → stands rec room ≡ empty → OutcomeOfCalls threeCuts outs rec room mixture
 example-calls outs long rec room m z =
-    demand3-calls 65535 (omega arith) outs long rec room m z threeCuts within-limits mixture narrow keeps-rules
+    demand3-calls outs long rec room m z threeCuts within-limits mixture narrow keeps-rules
 
 -- on a record of zeros, and once more on what that left
-module _ (outs : ℕ → List ℕ) (long : (n : ℕ) → length (outs n) ≡ 65535) (n : ℕ) (room : List ℕ) (lr : 8576 ≤ n) (lm : 1048560 ≤ length room) where
+module _ (outs : ℕ → List ℕ) (long : LongEnough outs) (n : ℕ) (room : List ℕ) (lr : 8576 ≤ n) (lm : 1048560 ≤ length room) where
   pub example-zeros : OutcomeOfCalls threeCuts outs (replicate n 0) room mixture
   example-zeros = example-calls outs long (replicate n 0) room (store-starts .zero-filled n room lr lm .0) (store-starts .zero-filled n room lr lm .1)
 
@@ -244,7 +244,7 @@ module _ (space : List ℕ) (wide : 1512 ≤ length space) where
   abbrev payloads : List (List ℕ)
   payloads = sent 0 0 ∷ sent 0 2 ∷ sent 1 1 ∷ behind ∷ [] ∷ sent 0 1 ∷ sent 2 0 ∷ [] ∷ sent 1 0 ∷ sent 2 1 ∷ []
 
-  module _ (outs : ℕ → List ℕ) (long : (n : ℕ) → length (outs n) ≡ 65535) (numbers : ℕ → List ℕ) where
+  module _ (outs : ℕ → List ℕ) (long : LongEnough outs) (numbers : ℕ → List ℕ) where
     abbrev loans : ℕ → Loan
     loans n = record { payload = getD payloads n []; at = getD (0 ∷ 0 ∷ 0 ∷ 3 ∷ []) n 0; out = outs n; told = numbers n }
 
@@ -281,7 +281,7 @@ module _ (space : List ℕ) (wide : 1512 ≤ length space) where
 
     pub example-deliveries : (rec room : List ℕ) → Made rec room → stands rec room ≡ empty → OutcomeOfDeliveries threeCuts loans rec room mixture
     example-deliveries rec room m z =
-        demand3-deliveries 65535 (omega arith) loans long rec room m z threeCuts within-limits mixture narrow all-sent keeps-rules
+        demand3-deliveries loans long rec room m z threeCuts within-limits mixture narrow all-sent keeps-rules
 
     -- and what the repeat and the sixth call, which finishes the first message, are told
     pub example-told :

@@ -57,11 +57,14 @@ pub record OutcomeOfCalls (cs : List Cut) (outs : ℕ → List ℕ) (rec room : 
   pub ends-empty : stands (lastly cs outs 0 rec room es .rec) (lastly cs outs 0 rec room es .room) ≡ empty
   pub made : Made (lastly cs outs 0 rec room es .rec) (lastly cs outs 0 rec room es .room)
 
+-- each call is lent an assembly buffer of 65,535 bytes or more
+abbrev pub LongEnough : (ℕ → List ℕ) → Type 0
+LongEnough outs = (n : ℕ) → 65535 ≤ length (outs n)
+
 -- Demand 3, of the calls: on every record and room that calls made and that stand for the empty store
 abbrev pub Demand3Calls : Type 0
 Demand3Calls =
-    (cap : ℕ) → 65535 ≤ cap
-    → (outs : ℕ → List ℕ) → ((n : ℕ) → length (outs n) ≡ cap)
+    (outs : ℕ → List ℕ) → LongEnough outs
     → (rec room : List ℕ) → Made rec room → stands rec room ≡ empty
     → (cs : List Cut) → ((c : ℕ) → c < length cs → Within (getD cs c noCut))
     → (es : List Event) → Narrow cs es → Schedule cs (start cs) es
@@ -75,7 +78,7 @@ pub record StoreStarts : Type 0 where
 -- and what a schedule left: another may follow, with messages and assembly buffers of its own.
 abbrev pub Demand3Again : Type 0
 Demand3Again =
-    (cap : ℕ) (outs outs′ : ℕ → List ℕ) → 65535 ≤ cap → ((n : ℕ) → length (outs′ n) ≡ cap)
+    (outs outs′ : ℕ → List ℕ) → LongEnough outs′
     → (rec room : List ℕ) (cs : List Cut) (es : List Event) → OutcomeOfCalls cs outs rec room es
     → (ds : List Cut) → ((c : ℕ) → c < length ds → Within (getD ds c noCut))
     → (fs : List Event) → Narrow ds fs → Schedule ds (start ds) fs
@@ -84,7 +87,7 @@ Demand3Again =
 -- Demand 3 of the calls that follow strawhub_store_new, whatever the record held
 abbrev pub Demand3New : Type 0
 Demand3New =
-    (cap : ℕ) (outs : ℕ → List ℕ) → 65535 ≤ cap → ((n : ℕ) → length (outs n) ≡ cap)
+    (outs : ℕ → List ℕ) → LongEnough outs
     → (rec room : List ℕ) → 8576 ≤ length rec → 1048560 ≤ length room
     → (cs : List Cut) → ((c : ℕ) → c < length cs → Within (getD cs c noCut))
     → (es : List Event) → Narrow cs es → Schedule cs (start cs) es

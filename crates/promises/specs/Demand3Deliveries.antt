@@ -22,7 +22,7 @@ use Rattle.outcomes.specs.declared.Outcome.{Outcome}
 use Rattle.outcomes.specs.Outcomes.{outcome}
 use Rattle.outcomes.specs.Deliveries.{deliveryOutcome, deliveryNumbers, deliveredAt}
 use Rattle.promises.specs.Demand3.{Cut, Within, pieceOf, noCut, Event, deliver, tidy, start, Schedule, Said, due, times}
-use Rattle.promises.specs.Demand3Calls.{Narrow}
+use Rattle.promises.specs.Demand3Calls.{Narrow, LongEnough}
 
 -- a payload has a block at a place, whose part of the payload has these bytes
 pub record HasBlock (s : List ℕ) (at : ℕ) (block : Part → Block) (bytes : List ℕ) : Type 0 where
@@ -128,8 +128,7 @@ pub record OutcomeOfDeliveries (cs : List Cut) (loans : ℕ → Loan) (rec room 
 -- Demand 3, of the payloads' blocks
 abbrev pub Demand3Deliveries : Type 0
 Demand3Deliveries =
-    (cap : ℕ) → 65535 ≤ cap
-    → (loans : ℕ → Loan) → ((n : ℕ) → length (loans n .out) ≡ cap)
+    (loans : ℕ → Loan) → LongEnough (λ n. loans n .out)
     → (rec room : List ℕ) → Made rec room → stands rec room ≡ empty
     → (cs : List Cut) → ((c : ℕ) → c < length cs → Within (getD cs c noCut))
     → (es : List Event) → Narrow cs es → Handed cs loans 0 es → Schedule cs (start cs) es

@@ -9,10 +9,10 @@ use native.Mathlib.Omega.{arith}
 use lib.Dec.{eqb, ltb}
 use lib.ListN.{length, getD, take, drop, set, replicate, length-map, length-replicate, List·getD-map}
 use lib.Seq.{getD-drop, getD-take, ext-getD, length-take-le}
-use borrow.Author.Tests.{eq-eqb, ne-eqb, lt-ltb, le-ltb, le-leb, lt-leb, eqb-true, eqb-false, ltb-true}
+use borrow.Author.Tests.{eq-eqb, ne-eqb, lt-ltb, le-ltb, le-leb, lt-leb, eqb-true, eqb-false, ltb-true, ltb-false}
 use Rattle.wire.proofs.Same.{eq-same}
 use Rattle.reassembly.specs.Store.{Piece, first, follow, idOf, numberOf, finalOf, bytesOf, Message, Store, empty, allHeld, someHeld, total, joined, findId, findFree, placeOf, messageOr, plus, badLength, badNumber, repeats, clashes, tooMuch, complete, wholeOf, tooShort, refused, answer, step, sweptOne, sweep}
-use Rattle.reassembly.proofs.Table.{held-of-length, total-set, none-held}
+use Rattle.reassembly.proofs.Table.{held-of-length, total-set, total-set-le, total-take, length-joined, none-held}
 
 -- ---- the parts of a piece
 
@@ -262,6 +262,30 @@ module _ (cap : ℕ) (s : Store) (p : Piece) (k : ℕ) (m : Message) (gl : badLe
     -- else it brings the message out and frees its place.
     pub answer-finished : complete (plus m p) ≡ true → tooShort cap (plus m p) ≡ false → answer cap s p k m ≡ record { number = 60; out = some (wholeOf (plus m p)); store = set s k none }
     answer-finished e f = answer-whole e ∙ rw f refl
+
+-- What comes out has at most 65,535 bytes, by 53;
+whole-fits : (m : Message) (p : Piece) → tooMuch m p ≡ false → length (wholeOf (plus m p) .bytes) ≤ 65535
+unfolding wholeOf tooMuch
+whole-fits m p e =
+    let t : List (List ℕ) = plus m p .table in
+    let n : ℕ = suc (plus m p .last) in
+    let a : total t ≡ total (set (m .table) (numberOf p) (bytesOf p)) = ap total (plus-table m p) in
+    let b : total (set (m .table) (numberOf p) (bytesOf p)) ≤ total (m .table) + length (bytesOf p) = total-set-le (m .table) (numberOf p) (bytesOf p) in
+    let c : total (take n t) ≤ total t = total-take n t in
+    let d : length (joined (take n t)) ≡ total (take n t) = length-joined (take n t) in
+    let f : total (m .table) + length (bytesOf p) ≤ 65535 = ltb-false 65535 (total (m .table) + length (bytesOf p)) e in
+    omega arith
+
+-- so a step is the same with every assembly buffer of 65,535 bytes or more.
+pub step-enough : (cap : ℕ) → 65535 ≤ cap → (s : Store) (p : Piece) (now : ℕ) → step cap s p now ≡ step 65535 s p now
+unfolding step answer
+step-enough cap h s p now = go (messageOr (getD s (placeOf (idOf p) s) none) (idOf p) now) _ refl
+  where
+    go : (m : Message) (b : Bool) → tooMuch m p ≡ b → answer cap s p (placeOf (idOf p) s) m ≡ answer 65535 s p (placeOf (idOf p) s) m
+    go m true e = rw e refl
+    go m false e =
+        let w : length (wholeOf (plus m p) .bytes) ≤ 65535 = whole-fits m p e in
+        rw (not-too-short cap (plus m p) (omega arith), not-too-short 65535 (plus m p) w) refl
 
 -- ---- a sweep
 

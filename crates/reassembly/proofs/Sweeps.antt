@@ -167,13 +167,9 @@ module _ (rec room : List ℕ) (n : ℕ) (lr : n ≤ length rec) (enough : 8576 
   blank-made : 1048560 ≤ length room → Made blank room
   blank-made lm = record { record-long = omega (arith, blank-long); room-long = lm; slots = λ i hi e. absurd (true≢false (sym (blank-free i hi) ∙ e)) }
 
-pub new-empty : (rec room : List ℕ) → 8576 ≤ length rec → stands (renewed rec) room ≡ empty
+pub new-stands : (rec room : List ℕ) → 8576 ≤ length rec → stands (renewed rec) room ≡ empty
 unfolding renewed
-new-empty rec room lr = rw (le-ltb (length rec) 8576 lr) (blank-stands rec room 8576 lr (omega arith))
-
--- as whoever has both lengths at hand cites it
-pub new-stands : (rec room : List ℕ) → 8576 ≤ length rec → 1048560 ≤ length room → stands (renewed rec) room ≡ empty
-new-stands rec room lr lm = new-empty rec room lr
+new-stands rec room lr = rw (le-ltb (length rec) 8576 lr) (blank-stands rec room 8576 lr (omega arith))
 
 pub new-made : (rec room : List ℕ) → 8576 ≤ length rec → 1048560 ≤ length room → Made (renewed rec) room
 unfolding renewed
@@ -183,15 +179,15 @@ new-made rec room lr lm = rw (le-ltb (length rec) 8576 lr) (blank-made rec room 
 zeros-blank : (n : ℕ) → splice {A = ℕ} (replicate n 0) 0 (replicate n 0) ≡ replicate n 0
 zeros-blank n = splice-all (replicate n 0) (replicate n 0) refl
 
-pub zeros-stand : (n : ℕ) (room : List ℕ) → 8576 ≤ n → 1048560 ≤ length room → stands (replicate n 0) room ≡ empty
-zeros-stand n room lr lm =
+pub zeros-stand : (n : ℕ) (room : List ℕ) → 8576 ≤ n → stands (replicate n 0) room ≡ empty
+zeros-stand n room lr =
     ap (λ (z : List ℕ). stands z room) (sym (zeros-blank n))
-    ∙ blank-stands (replicate n 0) room n (let w : length {A = ℕ} (replicate n 0) ≡ n = length-replicate {A = ℕ} n 0 in omega arith) lm lr
+    ∙ blank-stands (replicate n 0) room n (let w : length {A = ℕ} (replicate n 0) ≡ n = length-replicate {A = ℕ} n 0 in omega arith) lr
 
 pub zeros-made : (n : ℕ) (room : List ℕ) → 8576 ≤ n → 1048560 ≤ length room → Made (replicate n 0) room
 zeros-made n room lr lm =
     subst (λ (z : List ℕ). Made z room) (zeros-blank n)
-    (blank-made (replicate n 0) room n (let w : length {A = ℕ} (replicate n 0) ≡ n = length-replicate {A = ℕ} n 0 in omega arith) lm lr)
+    (blank-made (replicate n 0) room n (let w : length {A = ℕ} (replicate n 0) ≡ n = length-replicate {A = ℕ} n 0 in omega arith) lr lm)
 
 -- The promises of the calls, from the equations that they state.
 pub sweep-promise : (second : ℕ) (rec rec′ : List ℕ) → rec′ ≡ swept second rec → Swept second rec rec′
@@ -204,6 +200,6 @@ sweep-promise second rec rec′ e =
 pub new-promise : (rec rec′ : List ℕ) → rec′ ≡ renewed rec → New rec rec′
 new-promise rec rec′ e =
     record {
-      store = λ room lr. ap (λ (z : List ℕ). stands z room) e ∙ new-empty rec room lr;
+      store = λ room lr. ap (λ (z : List ℕ). stands z room) e ∙ new-stands rec room lr;
       made = λ room lr lm. subst (λ (z : List ℕ). Made z room) (sym e) (new-made rec room lr lm);
     }

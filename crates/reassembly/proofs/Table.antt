@@ -5,7 +5,7 @@ use mathlib.Core.List.{List, [], _∷_}
 use Prim.Native.Nat.{ℕ, zero, suc, _+_, _≤_, _<_}
 use native.Mathlib.Nat.{not-suc-le-zero, le-of-suc-le-suc}
 use native.Mathlib.Omega.{arith}
-use lib.ListN.{length, getD, set, length-append}
+use lib.ListN.{length, getD, take, set, length-append}
 use Rattle.reassembly.specs.Store.{isHeld, someHeld, total, joined}
 
 pub held-of-length : (bs : List ℕ) → 1 ≤ length bs → isHeld bs ≡ true
@@ -18,6 +18,17 @@ total-set (y ∷ t) zero x h = omega arith
 total-set (y ∷ t) (suc i) x h =
     let ih : total (set t i x) + length (getD t i []) ≡ total t + length x = total-set t i x (le-of-suc-le-suc h) in
     omega arith
+
+-- a piece put into a table makes it longer by the piece at most, and a part of a table is no longer than it
+pub total-set-le : (t : List (List ℕ)) (i : ℕ) (x : List ℕ) → total (set t i x) ≤ total t + length x
+total-set-le [] i x = omega arith
+total-set-le (y ∷ t) zero x = omega arith
+total-set-le (y ∷ t) (suc i) x = let ih : total (set t i x) ≤ total t + length x = total-set-le t i x in omega arith
+
+pub total-take : (n : ℕ) (t : List (List ℕ)) → total (take n t) ≤ total t
+total-take zero t = omega arith
+total-take (suc n) [] = omega arith
+total-take (suc n) (x ∷ t) = let ih : total (take n t) ≤ total t = total-take n t in omega arith
 
 pub total-le : (t u : List (List ℕ)) → ((i : ℕ) → length (getD t i []) ≤ length (getD u i [])) → total t ≤ total u
 total-le [] u h = omega arith
