@@ -60,7 +60,7 @@ enum strawhub_number {
 	STRAWHUB_PIECE_AGAIN = 54,           /* exact repeat of a held piece */
 	STRAWHUB_PIECE_CONFLICT = 55,        /* same number, other content; above the last; a last that cannot be */
 	STRAWHUB_BUFFER_SHORT = 56,          /* would complete, assembly buffer too short */
-	STRAWHUB_LENT_SHORT = 59,            /* lent room or record short */
+	STRAWHUB_LENT_SHORT = 59,            /* lent room or record short, or the record names bytes outside it */
 	STRAWHUB_FINISHED = 60               /* a message is finished */
 };
 
@@ -164,7 +164,9 @@ struct strawhub_expanded strawhub_ack_expand(uint32_t through, uint8_t count, co
 uint8_t strawhub_store_new(uint8_t *record, size_t record_len);
 
 /* A first piece came, at a second. 0 kept; 60 with the whole message at the start of out; or 50, 52 to
- * 56, 59. record holds at least 8,576 bytes, room 1,048,560; out is the assembly buffer. */
+ * 56, 59. record holds at least 8,576 bytes, room 1,048,560; out is the assembly buffer. A record that
+ * no call made gets 59 too where it names bytes outside their slot's 65,535 for a piece that the call
+ * would compare or join. */
 struct strawhub_reply strawhub_store_first(uint8_t *record, size_t record_len, uint8_t *room, size_t room_len,
                                            uint8_t *out, size_t out_len, uint32_t id, uint8_t kind, uint32_t expires,
                                            uint64_t second, const uint8_t *bytes, size_t bytes_len);

@@ -158,7 +158,8 @@ impl<'a> FragmentHandler<'a> {
     }
 
     /// A handler over lent bytes that go on as the last handler left them. Refuses a short record or
-    /// room (59).
+    /// room (59). Over a record that no handler left, a piece is refused with 59 too where the record
+    /// names bytes outside their slot's 65,535 for a piece that would be compared or joined.
     pub fn resume(record: &'a mut [u8], room: &'a mut [u8], assembly: &'a mut [u8]) -> Result<Self, Refusal> {
         if record.len() < RECORD || room.len() < ROOM {
             return Err(Refusal::LentShort);

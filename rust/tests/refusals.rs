@@ -175,6 +175,17 @@ fn of_short_bytes() -> Vec<u8> {
 }
 
 #[test]
+fn a_record_that_names_bytes_outside_is_refused() {
+    let mut lent = Lent::new();
+    lent.record[15 * 24] = 1; // the id of slot 15
+    lent.record[15 * 24 + 18] = 1; // one number is held,
+    lent.record[384 + 15 * 512..][..4].copy_from_slice(&[0xff, 0xff, 1, 0]); // 0: a byte after the slot's 65,535
+    assert_eq!(lent.refuses(next(1, 1, true, b"y")), 59);
+    assert_eq!(lent.refuses(first(1, b"x")), 59);
+    lent.keeps(next(1, 1, false, b"y"));
+}
+
+#[test]
 fn every_refusal_is_given_and_changes_nothing() {
     let found = [of_blocks(), of_headers(), of_writing(), of_acks(), of_stores(), of_short_bytes()].concat();
     let found: BTreeSet<u8> = found.into_iter().collect();

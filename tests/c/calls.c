@@ -367,6 +367,27 @@ static void store_long(void)
 	CHECK(first_of(1, page, 1035).number == 0);
 }
 
+/* A record that no call made: number 0 of slot 15 is one byte, after the 65,535 of its slot. */
+static void store_outside(void)
+{
+	uint8_t *head = store.record + 15 * 24, *entry = store.record + 384 + 15 * 512;
+	store_new();
+	head[0] = 1;                   /* the id */
+	head[18] = 1;                  /* numbers held */
+	entry[0] = entry[1] = 0xff;    /* the place of number 0 */
+	entry[2] = 1;                  /* its length */
+	copy = store;
+	CHECK(next_of(1, 1, 1, "y", 1).number == 59 && unchanged()); /* would join it */
+	CHECK(first_of(1, "x", 1).number == 59 && unchanged());      /* would compare it */
+	CHECK(next_of(1, 1, 1, "y", 0).number == 50 && unchanged());
+	CHECK(next_of(1, 128, 1, "y", 1).number == 51 && unchanged());
+	CHECK(next_of(1, 1, 0, "y", 1).number == 0); /* reads no piece */
+	store = copy;
+	entry[0] = 0xfe; /* its last byte is the slot's */
+	CHECK(first_of(1, "x", 1).number == 55);
+	CHECK(next_of(1, 1, 1, "y", 1).number == STRAWHUB_FINISHED && store.out[0] == 0x5a && store.out[1] == 'y');
+}
+
 static void store_sweep(void)
 {
 	store_new();
@@ -426,6 +447,7 @@ int main(void)
 	story();
 	store_pieces();
 	store_long();
+	store_outside();
 	store_sweep();
 	block_deliver();
 	printf("calls: %u passed, %u failed\n", passed, failed);

@@ -1,13 +1,22 @@
-"""Records that no call made: a call returns, answers a number of 01's, leaves all bytes at a refusal, and writes none that it was not lent."""
+"""Records that no call made: a call returns, answers a number of 01's, leaves all bytes at a refusal, and writes none that it was not lent.
+
+59 comes exactly where a call would read bytes outside their slot by the record.
+"""
+import collections
+import struct
+
 from acks import TOP, TRACKER
 from blocks_model import LISTED
 from deliveries import fragment
 from lent import Lent
 from reassembly import mixture
+from reassembly_model import Record
 from stores import LATEST, MESSAGE, RECORD, Pair
 
 FIRST = (0, 50, 52, 53, 54, 55, 56, 60)
 FOLLOW_ON = FIRST + (51,)
+
+CAME = collections.Counter()  # calls that read a held piece: to compare or to join it, with 59 due or not
 
 
 def some_tracker(rng):
@@ -51,31 +60,64 @@ def some_ident(rng, content):
     return int.from_bytes(content[at:at + 4], "little") if rng.random() < 0.8 else rng.getrandbits(32)
 
 
-def piece(pair, ident):
+def edge(rng):
+    """A piece's place and length: anywhere inside its slot, up to the slot's end, or past it."""
+    n = rng.choice((1, 20, 1500, rng.randrange(1, 65536)))
+    return rng.choice(((rng.randrange(65536 - n), n), (65535 - n, n), (65536 - n, n), (65535, n), (rng.getrandbits(16), n)))
+
+
+def lacking_one(rng):
+    """A record whose one open message lacks one piece; up to two of its pieces stand at an edge. With its id, that number, the last, and a held one."""
+    slot, ident, last, content = rng.randrange(16), rng.getrandbits(32), rng.choice((1, 2, 5, 127)), bytearray(RECORD)
+    number = rng.choice((0, last, rng.randrange(last + 1)))
+    held = [k for k in range(last + 1) if k != number]
+    head = ident, rng.getrandbits(64), 7, rng.choice((0, 64035, 65535)), last, 0 if number == last else last, max(held), 20
+    struct.pack_into("<IQIHBBBB", content, 24 * slot, *head)
+    edges = rng.sample(held, min(len(held), rng.randrange(3)))
+    for k in held:
+        struct.pack_into("<HH", content, 384 + 512 * slot + 4 * k, *(edge(rng) if k in edges else (rng.randrange(64000), 40)))
+    return bytes(content), ident, number, last, rng.choice(edges or held)
+
+
+def right(before, got, allowed, ident, first, number, last, length):
+    """Whether the answer is 59 exactly where it is due, and else one of 01's."""
+    record = Record(before)
+    read = record.reads(ident, first, number, last, length)
+    due = any(record.outside(*at) for at in read)
+    CAME["held" if number in (k for _, k in read) else "joined", due] += bool(read)
+    return (got == 59) == due and got in allowed + (59,)
+
+
+def piece(pair, ident, number=None, last=None):
     """A first or a follow-on piece."""
-    rng, first = pair.rng, pair.rng.random() < 0.5
+    rng = pair.rng
+    first = rng.random() < 0.5 if number is None else number == 0
     data, out = Lent(rng.randbytes(rng.choice((0, 1, 20, 1500, 1501)))), Lent(pair.noise[:rng.choice((0, 100, MESSAGE))])
-    before, numbers = pair.record.content(), (ident, rng.randrange(256), rng.randrange(2), rng.getrandbits(64))
+    before, called = pair.record.content(), (rng.randrange(256) if number is None else number, rng.randrange(2) if last is None else last)
+    number, last = (0, 0) if first else called
     call = pair.calls.store_first if first else pair.calls.store_follow_on
-    got = call(*pair.record.slice(), *pair.room.slice(), *out.slice(), *numbers, *data.slice())
+    got = call(*pair.record.slice(), *pair.room.slice(), *out.slice(), ident, *called, rng.getrandbits(64), *data.slice())
     written = got.length if got.number == 60 else 0
     stands = pair.state_stands(got.number) and data.stays() and written <= out.size and out.outside(written)
     name = f"store_{'first' if first else 'follow_on'} on a forged record"
-    pair.judge.compare(got.number in (FIRST if first else FOLLOW_ON), True, stands, name, before, *numbers, data.content(), out.size)
+    good = right(before, got.number, FIRST if first else FOLLOW_ON, ident, first, number, last, data.size)
+    pair.judge.compare(good, True, stands, name, before, got.number, ident, *called, data.content(), out.size)
 
 
 def delivery(pair, ident):
     """A fragment as a block."""
     rng = pair.rng
     parts = [rng.randbytes(rng.choice((1, 20, 1501))) for _ in range(rng.randrange(2, 129))]
-    payload = Lent(fragment(ident, ((rng.choice(sorted(LISTED)), 7), parts), rng.choice((0, rng.randrange(len(parts))))))
+    i = rng.choice((0, rng.randrange(len(parts))))
+    payload = Lent(fragment(ident, ((rng.choice(sorted(LISTED)), 7), parts), i))
     out, told, before = Lent(pair.noise[:rng.choice((0, 100, MESSAGE))]), Lent(bytes(48)), pair.record.content()
     loans = (*pair.record.slice(), *pair.room.slice(), *out.slice())
     got = pair.calls.block_deliver(*payload.slice(), 0, *loans, rng.getrandbits(64), told.address)
     length = int.from_bytes(told.content()[40:], "little")
     stands = pair.state_stands(got.number) and payload.stays() and length <= out.size and out.outside(length if got.number == 60 else 0)
     stands = stands and (told.outside(48) if got.number in (0, 60) else told.stays())
-    pair.judge.compare(got.number in FOLLOW_ON, True, stands, "block_deliver on a forged record", before, payload.content(), out.size)
+    good = right(before, got.number, FOLLOW_ON, ident, i == 0, i, i == len(parts) - 1, len(parts[i]))
+    pair.judge.compare(good, True, stands, "block_deliver on a forged record", before, got.number, payload.content(), out.size)
 
 
 def stores(pair, count):
@@ -90,9 +132,23 @@ def stores(pair, count):
         pair.judge.compare(got, 0, pair.record.outside(RECORD) and pair.room.stays(), "store_sweep on a forged record", content)
 
 
+def nearly_whole(pair, count):
+    """The piece that a message lacks, and one that it holds: both halves of what a call reads, inside and outside."""
+    rng = pair.rng
+    CAME.clear()
+    for _ in range(count):
+        content, ident, number, last, held = lacking_one(rng)
+        for k in (held, number):
+            pair.record = Lent(content)
+            piece(pair, ident, k, int(k == last))
+    for case in ((half, due) for half in ("held", "joined") for due in (False, True)):
+        pair.judge.compare(CAME[case] > count // 20, True, True, f"pieces read of forged records, {case}: {CAME[case]}")
+
+
 def run(calls, judge, rng, whole):
     trackers(calls, judge, rng, 50000 if whole else 3000)
     pair = Pair(calls, judge, rng)
     for _ in zip(range(300), mixture(pair, 301, 20)):
         pass
     stores(pair, 4000 if whole else 120)
+    nearly_whole(pair, 20000 if whole else 1000)
