@@ -4,7 +4,7 @@ use reassembly::Reply;
 use taking::bare;
 use taking::take;
 ghost use mathlib.Core.Path.{_≡_};
-ghost use mathlib.Core.Bool.{false};
+ghost use mathlib.Core.Bool.{false, cond};
 ghost use Prim.Native.Nat.{_<_, _≤_};
 ghost use lib.ListN.{length};
 ghost use Rattle.reassembly.specs.Store.{first, follow, step};
@@ -30,6 +30,19 @@ fn off_number(k: u8) -> bool
     ensures { λ r. ⌜ r ≡ offNumber k ⌝ }
 {
     (k == 0) | (127 < k)
+}
+
+// 50 before 51, or 0.
+fn refusal(bad: bool, off: bool) -> u8
+    ensures { λ r. ⌜ r ≡ cond bad 50 (cond off 51 0) ⌝ }
+{
+    if bad {
+        return 50;
+    }
+    if off {
+        return 51;
+    }
+    0
 }
 
 // A first piece arrives, with its message's type and expiration, at the present second.
@@ -79,11 +92,9 @@ pub fn follow_on_fragment(
     if is_short(rec, room) {
         return bare(59);
     }
-    if bad_size(bytes.len()) {
-        return bare(50);
-    }
-    if off_number(number) {
-        return bare(51);
+    let n = refusal(bad_size(bytes.len()), off_number(number));
+    if n != 0 {
+        return bare(n);
     }
     let l = Label {
         id,
