@@ -1,0 +1,85 @@
+/* What a piece costs.
+ *   pieces time COUNT LENGTH          nanoseconds of a piece over whole messages, and of the finishing one alone
+ *   pieces count COUNT LENGTH KINDS   the calls of these kinds, 20 times each, for a tool that counts instructions:
+ *                                     o opens the message, k keeps the pieces between, r repeats the first, f finishes it */
+#define _POSIX_C_SOURCE 200809L
+#include "strawhub.h"
+#include <stdio.h>
+#include <stdlib.h>
+#include <string.h>
+#include <time.h>
+
+#define TIMES 20
+
+static uint8_t record[STRAWHUB_RECORD], room[STRAWHUB_ROOM], out[STRAWHUB_MESSAGE], bytes[1500];
+
+static void wants(unsigned number, unsigned wanted)
+{
+	if (number == wanted)
+		return;
+	fprintf(stderr, "pieces: a piece is answered by %u, not by %u\n", number, wanted);
+	exit(1);
+}
+
+static double now(void)
+{
+	struct timespec t;
+	clock_gettime(CLOCK_MONOTONIC, &t);
+	return t.tv_sec * 1e9 + t.tv_nsec;
+}
+
+__attribute__((noinline)) static unsigned piece(unsigned number, unsigned last, size_t length)
+{
+	if (number == 0)
+		return strawhub_store_first(record, sizeof record, room, sizeof room, out, sizeof out, 5, 20, 9, 0, bytes,
+		                            length)
+		    .number;
+	return strawhub_store_follow_on(record, sizeof record, room, sizeof room, out, sizeof out, 5, (uint8_t)number,
+	                                (uint8_t)last, 0, bytes, length)
+	    .number;
+}
+
+static void timed(unsigned count, unsigned length)
+{
+	unsigned messages = 400000 / (count * (1 + length / 200)) + 1, i, n;
+	double all = 0, finishing = 0;
+	for (n = 0; n < messages; n++) {
+		double begun = now(), but_one, done;
+		for (i = 0; i + 1 < count; i++)
+			wants(piece(i, 0, length), STRAWHUB_DONE);
+		but_one = now();
+		wants(piece(count - 1, 1, length), STRAWHUB_FINISHED);
+		done = now();
+		all += done - begun;
+		finishing += done - but_one;
+	}
+	printf("%.2f %.2f\n", all / messages / count, finishing / messages);
+}
+
+static void counted(unsigned count, unsigned length, const char *kinds)
+{
+	unsigned i, n;
+	for (n = 0; n < TIMES; n++) {
+		if (strchr(kinds, 'o'))
+			wants(piece(0, 0, length), STRAWHUB_DONE);
+		for (i = 1; strchr(kinds, 'k') && i + 1 < count; i++)
+			wants(piece(i, 0, length), STRAWHUB_DONE);
+		if (strchr(kinds, 'r'))
+			wants(piece(0, 0, length), STRAWHUB_PIECE_AGAIN);
+		if (strchr(kinds, 'f'))
+			wants(piece(count - 1, 1, length), STRAWHUB_FINISHED);
+		strawhub_store_new(record, sizeof record);
+	}
+}
+
+int main(int argc, char **argv)
+{
+	if (argc < 4)
+		return 2;
+	memset(bytes, 7, sizeof bytes);
+	if (argc == 4)
+		timed((unsigned)atoi(argv[2]), (unsigned)atoi(argv[3]));
+	else
+		counted((unsigned)atoi(argv[2]), (unsigned)atoi(argv[3]), argv[4]);
+	return 0;
+}
