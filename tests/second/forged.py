@@ -10,7 +10,7 @@ from blocks_model import LISTED
 from deliveries import fragment
 from lent import Lent
 from reassembly import mixture
-from reassembly_model import Record
+from record_model import Record
 from stores import LATEST, MESSAGE, RECORD, Pair
 
 FIRST = (0, 50, 52, 53, 54, 55, 56, 60)
