@@ -41,6 +41,15 @@ impl Session {
 }
 // README
 
+fn session() -> Session {
+    Session {
+        k_header_1: common::K1,
+        k_header_2: common::K2,
+        acks: RemoteAckManager::new(),
+        storage: FragmentStorage::over(vec![0; STORAGE]).unwrap(),
+    }
+}
+
 #[test]
 fn the_readme_has_this_session() {
     let example = include_str!("readme.rs").split("// README\n").nth(1).unwrap();
@@ -49,12 +58,7 @@ fn the_readme_has_this_session() {
 
 #[test]
 fn a_session_receives_a_letter_once() {
-    let mut session = Session {
-        k_header_1: common::K1,
-        k_header_2: common::K2,
-        acks: RemoteAckManager::new(),
-        storage: FragmentStorage::over(vec![0; STORAGE]).unwrap(),
-    };
+    let mut session = session();
     let mut packet = common::packet(HeaderKind::Data { dst_id: 1, pkt_num: 5, immediate_ack: true }, 60);
     let Ok(HeaderKind::Data { pkt_num, immediate_ack: true, .. }) = session.header(&mut packet) else {
         panic!("the header is the one that was written")
@@ -76,12 +80,7 @@ fn a_session_receives_a_letter_once() {
 
 #[test]
 fn a_forged_packet_takes_no_number() {
-    let mut session = Session {
-        k_header_1: common::K1,
-        k_header_2: common::K2,
-        acks: RemoteAckManager::new(),
-        storage: FragmentStorage::over(vec![0; STORAGE]).unwrap(),
-    };
+    let mut session = session();
     let header = HeaderKind::Data { dst_id: 1, pkt_num: 5, immediate_ack: false };
 
     // a forged packet with a readable header: its payload is not authenticated, so nothing is registered
