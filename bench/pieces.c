@@ -1,6 +1,6 @@
 /* What a piece costs.
  *   pieces time COUNT LENGTH          nanoseconds of a piece over whole messages, and of the finishing one alone
- *   pieces count COUNT LENGTH KINDS   the calls of these kinds, 20 times each, for a tool that counts instructions:
+ *   pieces count COUNT LENGTH KINDS   the calls of these kinds, 1,000 times each, for a tool that counts instructions:
  *                                     o opens the message, k keeps the pieces between, r repeats the first, f finishes it */
 #define _POSIX_C_SOURCE 200809L
 #include "strawhub.h"
@@ -9,9 +9,10 @@
 #include <string.h>
 #include <time.h>
 
-#define TIMES 20
+#define TIMES 1000
 
-static uint8_t record[STRAWHUB_RECORD], room[STRAWHUB_ROOM], out[STRAWHUB_MESSAGE], bytes[1500];
+/* aligned, so that two archives copy between the same places */
+static _Alignas(4096) uint8_t record[STRAWHUB_RECORD], room[STRAWHUB_ROOM], out[STRAWHUB_MESSAGE], bytes[1500];
 
 static void wants(unsigned number, unsigned wanted)
 {
@@ -58,15 +59,16 @@ static void timed(unsigned count, unsigned length)
 
 static void counted(unsigned count, unsigned length, const char *kinds)
 {
+	int opens = !!strchr(kinds, 'o'), keeps = !!strchr(kinds, 'k'), repeats = !!strchr(kinds, 'r'), finishes = !!strchr(kinds, 'f');
 	unsigned i, n;
 	for (n = 0; n < TIMES; n++) {
-		if (strchr(kinds, 'o'))
+		if (opens)
 			wants(piece(0, 0, length), STRAWHUB_DONE);
-		for (i = 1; strchr(kinds, 'k') && i + 1 < count; i++)
+		for (i = 1; keeps && i + 1 < count; i++)
 			wants(piece(i, 0, length), STRAWHUB_DONE);
-		if (strchr(kinds, 'r'))
+		if (repeats)
 			wants(piece(0, 0, length), STRAWHUB_PIECE_AGAIN);
-		if (strchr(kinds, 'f'))
+		if (finishes)
 			wants(piece(count - 1, 1, length), STRAWHUB_FINISHED);
 		strawhub_store_new(record, sizeof record);
 	}
