@@ -24,7 +24,7 @@ pub extern "C" fn strawhub_tracker_new(tracker: &mut [u8]) -> u32
     0
 }
 
-// A packet number arrived: 0, or 40, 42, 43, 59, and then the tracker stays.
+// The number of a packet whose payload was authenticated: 0, or 40, 42, 43, 59, and then the tracker stays.
 #[no_mangle]
 pub extern "C" fn strawhub_tracker_register(tracker: &mut [u8], n: u32) -> u32
     ensures { λ r. ⌜ (r ≡ registerThere (now (tracker .entry)) n) × (now (tracker .exit) ≡ recordAfter (now (tracker .entry)) n) ⌝ }
