@@ -4,29 +4,29 @@ use mathlib.Core.Bool.{true}
 use mathlib.Core.List.{[], _∷_}
 use Rattle.acks.specs.Window.{falling, inWindow}
 use Rattle.acks.specs.History.{answerTo}
-use Rattle.acks.specs.Tracking.{fresh, mark, held, clearUp, marksAfter, acceptOf, answerOf, registerOf, registerAll}
-use Rattle.acks.specs.Runs.{inc, runs, flags, named, whole}
-use Rattle.acks.specs.Reporting.{shown, reportOf, ackInfo}
-use Rattle.acks.specs.Expanding.{numbers}
+use Rattle.acks.specs.Tracking.{fresh, mark, isDuplicate, clearUp, marksAfter, acceptOf, registerAnswer, registerOf, registerAll}
+use Rattle.acks.specs.Runs.{inc, runs, flags, named, wholePairs}
+use Rattle.acks.specs.Reporting.{reportOfRuns, reportOf, ackInfo}
+use Rattle.acks.specs.Expanding.{expansion}
 
 -- (c)
-pub case-c : numbers 10 2 (1 ∷ 3 ∷ []) ≡ 10 ∷ 9 ∷ 8 ∷ 6 ∷ 5 ∷ 4 ∷ []
-unfolding numbers named flags whole
+pub case-c : expansion 10 2 (1 ∷ 3 ∷ []) ≡ 10 ∷ 9 ∷ 8 ∷ 6 ∷ 5 ∷ 4 ∷ []
+unfolding expansion named flags wholePairs
 case-c = refl
 
 -- (h)
-pub case-h : ackInfo (registerAll fresh (5 ∷ [])) ≡ shown 5 (0 ∷ 4 ∷ 1 ∷ [])
-unfolding ackInfo reportOf registerAll registerOf answerOf answerTo held inWindow mark acceptOf marksAfter clearUp fresh runs inc falling
+pub case-h : ackInfo (registerAll fresh (5 ∷ [])) ≡ reportOfRuns 5 (0 ∷ 4 ∷ 1 ∷ [])
+unfolding ackInfo reportOf registerAll registerOf registerAnswer answerTo isDuplicate inWindow mark acceptOf marksAfter clearUp fresh runs inc falling
 case-h = refl
 
 -- (i)
-pub case-i : ackInfo (registerAll fresh (4 ∷ 2 ∷ [])) ≡ shown 4 (0 ∷ 1 ∷ 1 ∷ 1 ∷ 1 ∷ [])
-unfolding ackInfo reportOf registerAll registerOf answerOf answerTo held inWindow mark acceptOf marksAfter clearUp fresh runs inc falling
+pub case-i : ackInfo (registerAll fresh (4 ∷ 2 ∷ [])) ≡ reportOfRuns 4 (0 ∷ 1 ∷ 1 ∷ 1 ∷ 1 ∷ [])
+unfolding ackInfo reportOf registerAll registerOf registerAnswer answerTo isDuplicate inWindow mark acceptOf marksAfter clearUp fresh runs inc falling
 case-i = refl
 
 -- (j)
 pub case-j : registerOf fresh 256 .answer ≡ 40
-unfolding registerOf answerOf answerTo fresh
+unfolding registerOf registerAnswer answerTo fresh
 case-j = refl
 
 -- where both hold, 42 is given: 45 was received, and the window that ends at 300 begins at 46
@@ -35,6 +35,6 @@ unfolding answerTo
 late-first = refl
 
 -- (k)
-pub case-k : ackInfo (registerAll fresh (255 ∷ [])) ≡ shown 255 (0 ∷ 254 ∷ 0 ∷ [])
-unfolding ackInfo reportOf registerAll registerOf answerOf answerTo held inWindow mark acceptOf marksAfter clearUp fresh runs inc falling
+pub case-k : ackInfo (registerAll fresh (255 ∷ [])) ≡ reportOfRuns 255 (0 ∷ 254 ∷ 0 ∷ [])
+unfolding ackInfo reportOf registerAll registerOf registerAnswer answerTo isDuplicate inWindow mark acceptOf marksAfter clearUp fresh runs inc falling
 case-k = refl

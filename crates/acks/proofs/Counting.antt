@@ -6,7 +6,7 @@ use Prim.Native.Nat.{ℕ, suc, _+_, _-_, _%_, _≤_, _<_}
 use native.Mathlib.Omega.{arith}
 use lib.ListN.{length, replicate, length-append, length-replicate}
 use lib.Seq.{take-length}
-use Rattle.acks.specs.Runs.{inc, runs, flags, whole, total}
+use Rattle.acks.specs.Runs.{inc, runs, flags, wholePairs, runSum}
 
 length-inc : (r : List ℕ) → 0 < length r → length (inc r) ≡ length r
 unfolding inc
@@ -45,16 +45,16 @@ runs-count false (true ∷ l) =
     flip : (n : ℕ) → n % 2 ≡ 1 → suc n % 2 ≡ 0
     flip n e = omega arith
 
-pub length-flags : (b : Bool) (ks : List ℕ) → length (flags b ks) ≡ total ks
-unfolding flags total
+pub length-flags : (b : Bool) (ks : List ℕ) → length (flags b ks) ≡ runSum ks
+unfolding flags runSum
 length-flags b [] = refl
 length-flags b (k ∷ ks) =
     length-append (replicate k b) (flags (not b) ks)
     ∙ rw (length-replicate k b, length-flags (not b) ks)
 
 -- whole pairs stay
-pub whole-even : (l : List ℕ) → length l % 2 ≡ 0 → whole l ≡ l
-unfolding whole
+pub whole-even : (l : List ℕ) → length l % 2 ≡ 0 → wholePairs l ≡ l
+unfolding wholePairs
 whole-even l e = rw (e, none (length l)) (take-length l)
   where
     none : (n : ℕ) → n - 0 ≡ n

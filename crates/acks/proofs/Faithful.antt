@@ -11,9 +11,9 @@ use Rattle.acks.specs.declared.Tracker.{Tracker}
 use Rattle.acks.specs.declared.AckInfo.{AckInfo}
 use Rattle.acks.specs.Window.{falling, window, keep}
 use Rattle.acks.specs.Tracking.{mark}
-use Rattle.acks.specs.Runs.{runs, flags, named, whole, total}
-use Rattle.acks.specs.Reporting.{filled, refusal, silent, shown, reportOf, ackInfo, pairBytes}
-use Rattle.acks.specs.Expanding.{numbers, expandOf, listAfter}
+use Rattle.acks.specs.Runs.{runs, flags, named, wholePairs, runSum}
+use Rattle.acks.specs.Reporting.{padded, refusedReport, silent, reportOfRuns, reportOf, ackInfo, pairBytes}
+use Rattle.acks.specs.Expanding.{expansion, expandOf, listAfter}
 use Rattle.acks.proofs.RunLengths.{flags-runs}
 use Rattle.acks.proofs.Falling.{named-keep, length-falling, map-falling, window-size, length-keep}
 use Rattle.acks.proofs.Counting.{runs-count, runs-short, length-flags, whole-even}
@@ -24,9 +24,9 @@ use Rattle.acks.proofs.Tracks.{Tracks}
 pub record Faithful (top : ℕ) (got : ℕ → Bool) (r : AckInfo) : Type 0 where
   pub number-is : r .number ≡ 0
   pub through-is : r .through ≡ top
-  pub names-are : numbers (r .through) (r .count) (pairBytes r) ≡ keep got (window top)
+  pub names-are : expansion (r .through) (r .count) (pairBytes r) ≡ keep got (window top)
   -- 1, the count and all numbers of the pairs add up to the window's size
-  pub adds-up : r .count + total (whole (pairBytes r)) ≡ min top 254
+  pub adds-up : r .count + runSum (wholePairs (pairBytes r)) ≡ min top 254
   pub even : length (pairBytes r) % 2 ≡ 0
   pub few : length (pairBytes r) ≤ 254
   pub sized : length (pairBytes r) ≡ r .len
@@ -35,8 +35,8 @@ module _ (top : ℕ) (got : ℕ → Bool) (h : got top ≡ true) where
   abbrev below : List Bool
   below = map got (falling (top - 1) (min top 254))
 
-  made : (cs : List ℕ) → cs ≡ runs true below → Faithful top got (shown top cs)
-  unfolding shown filled pairBytes window numbers falling total
+  made : (cs : List ℕ) → cs ≡ runs true below → Faithful top got (reportOfRuns top cs)
+  unfolding reportOfRuns padded pairBytes window expansion falling runSum
   made [] e = absurd (omega (arith, runs-count true below .0, ap length e))
   made (c ∷ ps) e =
       record {
@@ -73,7 +73,7 @@ module _ (top : ℕ) (got : ℕ → Bool) (h : got top ≡ true) where
       all : named top (true ∷ below) ≡ keep got (falling top (suc (min top 254)))
       all = ap (λ b. named top (b ∷ below)) (sym h) ∙ named-keep got top (suc (min top 254))
 
-      sum : c + total ps ≡ min top 254
+      sum : c + runSum ps ≡ min top 254
       sum =
           sym (length-flags true (c ∷ ps))
           ∙ ap length (ap (flags true) e ∙ flags-runs true below)
@@ -103,8 +103,8 @@ pub expands : (top : ℕ) (got : ℕ → Bool) (r : AckInfo) → Faithful top go
     (expandOf (r .through) (r .count) (pairBytes r) (length list) ≡ record { number = 0; count = length (keep got (window top)) })
     × (listAfter (r .through) (r .count) (pairBytes r) list ≡ splice list 0 (keep got (window top)))
 expands top got r f list big =
-    let low : r .count + total (whole (pairBytes r)) ≤ r .through = omega (arith, f .adds-up, f .through-is) in
-    let few : length (numbers (r .through) (r .count) (pairBytes r)) ≤ length list =
+    let low : r .count + runSum (wholePairs (pairBytes r)) ≤ r .through = omega (arith, f .adds-up, f .through-is) in
+    let few : length (expansion (r .through) (r .count) (pairBytes r)) ≤ length list =
     omega (arith, ap length (f .names-are), length-keep got (window top), window-size top) in
     let z = is-0 (r .through) (r .count) (pairBytes r) list low few in (
       sym (z .0) ∙ ap (λ l. record { number = 0; count = length l }) (f .names-are),
@@ -113,7 +113,7 @@ expands top got r f list big =
 
 -- a report has at most 127 pairs, so that its 254 bytes hold them
 pub at-most-254 : (top : ℕ) (got : ℕ → Bool) → reportOf top got .len ≤ 254
-unfolding reportOf shown refusal
+unfolding reportOf reportOfRuns refusedReport
 at-most-254 top got = go (got top) (runs true (map got (falling (top - 1) (min top 254)))) size (runs-count true _ .1)
   where
     size : length (runs true (map got (falling (top - 1) (min top 254)))) ≤ 256
@@ -125,7 +125,7 @@ at-most-254 top got = go (got top) (runs true (map got (falling (top - 1) (min t
           length-falling (top - 1) (min top 254),
         )
 
-    go : (b : Bool) (cs : List ℕ) → length cs ≤ 256 → length cs % 2 ≡ 1 → cond b (shown top cs) silent .len ≤ 254
+    go : (b : Bool) (cs : List ℕ) → length cs ≤ 256 → length cs % 2 ≡ 1 → cond b (reportOfRuns top cs) silent .len ≤ 254
     go false cs h o = omega arith
     go true [] h o = omega arith
     go true (c ∷ ps) h o = omega arith

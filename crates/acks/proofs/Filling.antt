@@ -7,8 +7,8 @@ use lib.ListN.{length, drop, set, getD, length-append}
 use Rattle.wire.specs.Parts.{splice}
 use Rattle.wire.proofs.Parts.{length-splice, splice-then, stores-splice}
 use Rattle.acks.specs.Window.{falling}
-use Rattle.acks.specs.Runs.{whole, total}
-use Rattle.acks.specs.Expanding.{numbers}
+use Rattle.acks.specs.Runs.{wholePairs, runSum}
+use Rattle.acks.specs.Expanding.{expansion}
 use Rattle.acks.proofs.Falling.{length-falling}
 use Rattle.wire.proofs.Slices.{splice-none, splice-more}
 use Rattle.acks.proofs.Named.{falling-snoc, left, left-step, left-end, total-step, numbers-start, length-numbers}
@@ -27,13 +27,13 @@ pub record Wrote (ps l0 : List ℕ) (place top : ℕ) (l : List ℕ) (at above i
   pub all : left ps 0 (top - 1) ≡ w ++ left ps i (above - 1)
   pub counted : at ≡ place + length w
   pub now-is : l ≡ splice l0 place w
-  pub inside : total (whole (drop i ps)) ≤ above
+  pub inside : runSum (wholePairs (drop i ps)) ≤ above
   pub low : above ≤ top
   pub same : length l ≡ length l0
   pub at-in : i ≤ length ps
 
 module _ (ps l0 : List ℕ) (place top : ℕ) (big : place + length (left ps 0 (top - 1)) ≤ length l0) where
-  pub wrote-start : total (whole ps) ≤ top → Wrote ps l0 place top l0 place top 0
+  pub wrote-start : runSum (wholePairs ps) ≤ top → Wrote ps l0 place top l0 place top 0
   wrote-start h =
       record {
         w = [];
@@ -80,7 +80,7 @@ module _ (ps l0 : List ℕ) (place top : ℕ) (big : place + length (left ps 0 (
           all = s .all ∙ ap (λ x. s .w ++ x) next ∙ sym (append-assoc (s .w) f (left ps (i + 2) (above - a - b - 1)));
           counted = omega (arith, s .counted, length-append (s .w) f, fb);
           now-is = splice-then l0 place (s .w) f (omega (arith, room-left, s .counted, s .same, fb)) (s .now-is) (ap (λ (k : ℕ). splice l k f) (s .counted));
-          inside = less (total (whole (drop i ps))) a b (total (whole (drop (i + 2) ps))) above (total-step ps i h) (s .inside);
+          inside = less (runSum (wholePairs (drop i ps))) a b (runSum (wholePairs (drop (i + 2) ps))) above (total-step ps i h) (s .inside);
           low = lower above a b top (s .low);
           same = length-splice l at f (omega (arith, room-left, fb)) ∙ s .same;
           at-in = omega arith;
@@ -111,10 +111,10 @@ module _ (ps l0 : List ℕ) (place top : ℕ) (big : place + length (left ps 0 (
       s .now-is ∙ ap (splice l0 place) (sym e)
 
 -- the through number, the count numbers below it and what the pairs name are all the numbers
-pub filled-in : (through count : ℕ) (ps l l2 l3 : List ℕ) → length (numbers through count ps) ≤ length l →
+pub filled-in : (through count : ℕ) (ps l l2 l3 : List ℕ) → length (expansion through count ps) ≤ length l →
     l2 ≡ splice (set l 0 through) 1 (falling (through - 1) count) →
     l3 ≡ splice l2 (1 + count) (left ps 0 (through - count - 1)) →
-    l3 ≡ splice l 0 (numbers through count ps)
+    l3 ≡ splice l 0 (expansion through count ps)
 filled-in through count ps l l2 l3 h e f =
     let n = length-numbers through count ps in
     let fc : length (falling (through - 1) count) ≡ count = length-falling (through - 1) count in

@@ -9,10 +9,10 @@ use Rattle.acks.specs.declared.Tracker.{Tracker}
 use Rattle.acks.specs.declared.AckInfo.{AckInfo}
 use Rattle.acks.specs.Window.{window, inWindow, keep}
 use Rattle.acks.specs.History.{answerTo, among, received, highestSeen, newest}
-use Rattle.acks.specs.Tracking.{fresh, held, registerOf, registerAll}
+use Rattle.acks.specs.Tracking.{fresh, isDuplicate, registerOf, registerAll}
 use Rattle.acks.specs.Reporting.{silent, reportOf, ackInfo, pairBytes}
 use Rattle.acks.specs.Expanding.{expandOf, listAfter}
-use Rattle.acks.specs.Recorded.{short, trackerAt, registerThere, duplicateThere, reportThere}
+use Rattle.acks.specs.Recorded.{trackerShort, trackerAt, registerThere, duplicateThere, reportThere}
 use Rattle.acks.proofs.Tracks.{Tracks, follows, answer-is}
 use Rattle.acks.proofs.Faithful.{Faithful, faithful, unheard, expands}
 use Rattle.acks.proofs.Newest.{same-report, highest-among, first-kept, in-window, among-keep}
@@ -23,15 +23,15 @@ unfolding registerOf
 registered-is w n = answer-is w n
 
 -- a record that is not short answers, tells and reports as the tracker there
-pub registered-there : (r : List ℕ) → short r ≡ false → (n : ℕ) → registerThere r n ≡ registerOf (trackerAt r) n .answer
+pub registered-there : (r : List ℕ) → trackerShort r ≡ false → (n : ℕ) → registerThere r n ≡ registerOf (trackerAt r) n .answer
 unfolding registerThere
 registered-there r e n = rw e
 
-pub duplicate-there : (r : List ℕ) → short r ≡ false → (n : ℕ) → duplicateThere r n ≡ cond (held (trackerAt r .highest) (trackerAt r .marks) n) 1 0
+pub duplicate-there : (r : List ℕ) → trackerShort r ≡ false → (n : ℕ) → duplicateThere r n ≡ cond (isDuplicate (trackerAt r .highest) (trackerAt r .marks) n) 1 0
 unfolding duplicateThere
 duplicate-there r e n = rw e
 
-pub reported-there : (r : List ℕ) → short r ≡ false → reportThere r ≡ ackInfo (trackerAt r)
+pub reported-there : (r : List ℕ) → trackerShort r ≡ false → reportThere r ≡ ackInfo (trackerAt r)
 unfolding reportThere
 reported-there r e = rw e
 

@@ -14,8 +14,8 @@ use Rattle.wire.proofs.Slices.{part-alike, length-part-min}
 use Rattle.wire.proofs.Zeros.{littleAt-none}
 use Rattle.acks.specs.declared.Tracker.{Tracker}
 use Rattle.acks.specs.History.{Packets}
-use Rattle.acks.specs.Tracking.{fresh, clearUp, marksAfter, acceptOf, answerOf, registerOf, registerAll}
-use Rattle.acks.specs.Recorded.{short, trackerAt, bytesOf, recordAfter, recordAll}
+use Rattle.acks.specs.Tracking.{fresh, clearUp, marksAfter, acceptOf, registerAnswer, registerOf, registerAll}
+use Rattle.acks.specs.Recorded.{trackerShort, trackerAt, trackerBytes, recordAfter, recordAll}
 use Rattle.acks.proofs.Ring.{length-clear}
 use Rattle.acks.proofs.Recording.{is-long, read-back}
 
@@ -33,7 +33,7 @@ length-after m top n =
 
 fits-step : (t : Tracker) (n : ℕ) → Fits t → n < 256 ^ 4 → Fits (registerOf t n .tracker)
 unfolding registerOf acceptOf
-fits-step t n f h = go (eqb (answerOf t n) 0)
+fits-step t n f h = go (eqb (registerAnswer t n) 0)
   where
     go : (b : Bool) → Fits (cond b (acceptOf t n) t)
     go true = record { small = omega (arith, f .small); long = length-after (t .marks) (t .highest) n ∙ f .long }
@@ -48,7 +48,7 @@ record Holds (r0 r : List ℕ) (t : Tracker) : Type 0 where
   fits : Fits t
 
 holds-step : (r0 r : List ℕ) (t : Tracker) (n : ℕ) → Holds r0 r t → n < 256 ^ 4 → Holds r0 (recordAfter r n) (registerOf t n .tracker)
-unfolding recordAfter bytesOf
+unfolding recordAfter trackerBytes
 holds-step r0 r t n h small =
     let u : Tracker = registerOf t n .tracker in
     let f : Fits (registerOf t n .tracker) = fits-step t n (h .fits) small in
@@ -95,7 +95,7 @@ module _ (rec : List ℕ) (zeros : part rec 0 259 ≡ replicate 259 0) where
     pub in-place : trackerAt (recordAll rec calls) ≡ registerAll fresh calls
     in-place = held-all .is
 
-    pub in-place-long : short (recordAll rec calls) ≡ false
+    pub in-place-long : trackerShort (recordAll rec calls) ≡ false
     in-place-long = is-long (recordAll rec calls) (held-all .room)
 
     pub in-place-behind : (length (recordAll rec calls) ≡ length rec) × (drop 259 (recordAll rec calls) ≡ drop 259 rec)

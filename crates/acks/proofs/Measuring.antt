@@ -6,14 +6,14 @@ use Prim.Native.Nat.{ℕ, _+_, _-_, _≤_, _<_}
 use native.Mathlib.Omega.{arith}
 use lib.ListN.{length, drop, getD, length-append}
 use Rattle.acks.specs.Window.{falling}
-use Rattle.acks.specs.Runs.{flags, whole, total}
-use Rattle.acks.specs.Expanding.{numbers}
+use Rattle.acks.specs.Runs.{flags, wholePairs, runSum}
+use Rattle.acks.specs.Expanding.{expansion}
 use Rattle.acks.proofs.Falling.{length-falling}
 use Rattle.acks.proofs.Named.{left, left-step, left-end, total-step, total-end, length-named, numbers-start}
 
 pub record Summed (through count : ℕ) (ps : List ℕ) (sum names i : ℕ) : Type 0 where
-  pub sums : count + total (whole ps) ≡ sum + total (whole (drop i ps))
-  pub names-are : length (numbers through count ps) ≡ names + length (left ps i 0)
+  pub sums : count + runSum (wholePairs ps) ≡ sum + runSum (wholePairs (drop i ps))
+  pub names-are : length (expansion through count ps) ≡ names + length (left ps i 0)
   pub at : i ≤ length ps
   pub few : names ≤ sum + 1
   pub bounded : sum ≤ through + 510
@@ -25,7 +25,7 @@ summed-start through count ps h =
       names-are =
           ap length (numbers-start through count ps)
           ∙ length-append (through ∷ falling (through - 1) count) (left ps 0 (through - count - 1))
-          ∙ omega (arith, length-falling (through - 1) count, length-named (through - count - 1) 0 (flags false (whole ps)));
+          ∙ omega (arith, length-falling (through - 1) count, length-named (through - count - 1) 0 (flags false (wholePairs ps)));
       at = omega arith;
       few = omega arith;
       bounded = omega arith;
@@ -49,10 +49,10 @@ summed-step through count ps sum names i nack ack s h l a p b q =
         ∙ length-append (falling (0 - getD ps i 0) (getD ps (i + 1) 0)) (left ps (i + 2) (0 - getD ps i 0 - getD ps (i + 1) 0))
         ∙ rw (
           length-falling (0 - getD ps i 0) (getD ps (i + 1) 0),
-          length-named (0 - getD ps i 0 - getD ps (i + 1) 0) 0 (flags false (whole (drop (i + 2) ps))),
+          length-named (0 - getD ps i 0 - getD ps (i + 1) 0) 0 (flags false (wholePairs (drop (i + 2) ps))),
         )
 
 pub summed-end : (through count : ℕ) (ps : List ℕ) (sum names i : ℕ) → Summed through count ps sum names i → length ps ≤ i + 1 →
-    (sum ≡ count + total (whole ps)) × (names ≡ length (numbers through count ps))
+    (sum ≡ count + runSum (wholePairs ps)) × (names ≡ length (expansion through count ps))
 summed-end through count ps sum names i s h =
     (omega (arith, s .sums, total-end ps i h), omega (arith, s .names-are, ap length (left-end ps i 0 h)))

@@ -8,19 +8,19 @@ use native.Mathlib.Numerals.{add-one, add-two}
 use lib.ListN.{length, drop, getD, replicate, length-append, length-drop}
 use lib.Seq.{drop-cons}
 use Rattle.acks.specs.Window.{falling}
-use Rattle.acks.specs.Runs.{flags, named, whole, total}
-use Rattle.acks.specs.Expanding.{numbers}
+use Rattle.acks.specs.Runs.{flags, named, wholePairs, runSum}
+use Rattle.acks.specs.Expanding.{expansion}
 use Rattle.acks.proofs.Falling.{length-falling}
 
 -- ---- whole pairs
-whole-two : (a b : ℕ) (r : List ℕ) → whole (a ∷ (b ∷ r)) ≡ a ∷ (b ∷ whole r)
-unfolding whole
+whole-two : (a b : ℕ) (r : List ℕ) → wholePairs (a ∷ (b ∷ r)) ≡ a ∷ (b ∷ wholePairs r)
+unfolding wholePairs
 whole-two a b r =
     let e : suc (suc (length r)) - suc (suc (length r)) % 2 ≡ suc (suc (length r - length r % 2)) = omega arith in
     rw e
 
-whole-short : (l : List ℕ) → length l < 2 → whole l ≡ []
-unfolding whole
+whole-short : (l : List ℕ) → length l < 2 → wholePairs l ≡ []
+unfolding wholePairs
 whole-short [] h = refl
 whole-short (a ∷ []) h = refl
 whole-short (a ∷ (b ∷ l)) h = absurd (omega arith)
@@ -69,23 +69,23 @@ falling-snoc n (suc j) =
 
 -- ---- the pairs from place i on
 abbrev pub left : List ℕ → ℕ → ℕ → List ℕ
-left ps i n = named n (flags false (whole (drop i ps)))
+left ps i n = named n (flags false (wholePairs (drop i ps)))
 
 pub left-step : (ps : List ℕ) (i n : ℕ) → i + 1 < length ps →
     left ps i n ≡ falling (n - getD ps i 0) (getD ps (i + 1) 0) ++ left ps (i + 2) (n - getD ps i 0 - getD ps (i + 1) 0)
 left-step ps i n h =
-    ap (λ l. named n (flags false (whole l))) (at-pair ps i h)
+    ap (λ l. named n (flags false (wholePairs l))) (at-pair ps i h)
     ∙ ap (λ l. named n (flags false l)) (whole-two (getD ps i 0) (getD ps (i + 1) 0) (drop (i + 2) ps))
-    ∙ pair-named n (getD ps i 0) (getD ps (i + 1) 0) (whole (drop (i + 2) ps))
+    ∙ pair-named n (getD ps i 0) (getD ps (i + 1) 0) (wholePairs (drop (i + 2) ps))
 
 pub total-step : (ps : List ℕ) (i : ℕ) → i + 1 < length ps →
-    total (whole (drop i ps)) ≡ getD ps i 0 + (getD ps (i + 1) 0 + total (whole (drop (i + 2) ps)))
-unfolding total
+    runSum (wholePairs (drop i ps)) ≡ getD ps i 0 + (getD ps (i + 1) 0 + runSum (wholePairs (drop (i + 2) ps)))
+unfolding runSum
 total-step ps i h =
-    ap (λ l. total (whole l)) (at-pair ps i h)
-    ∙ ap total (whole-two (getD ps i 0) (getD ps (i + 1) 0) (drop (i + 2) ps))
+    ap (λ l. runSum (wholePairs l)) (at-pair ps i h)
+    ∙ ap runSum (whole-two (getD ps i 0) (getD ps (i + 1) 0) (drop (i + 2) ps))
 
-at-end : (ps : List ℕ) (i : ℕ) → length ps ≤ i + 1 → whole (drop i ps) ≡ []
+at-end : (ps : List ℕ) (i : ℕ) → length ps ≤ i + 1 → wholePairs (drop i ps) ≡ []
 at-end ps i h =
     let e : length (drop i ps) ≡ length ps - i = length-drop i ps in
     whole-short (drop i ps) (omega arith)
@@ -94,19 +94,19 @@ pub left-end : (ps : List ℕ) (i n : ℕ) → length ps ≤ i + 1 → left ps i
 unfolding flags named
 left-end ps i n h = ap (λ l. named n (flags false l)) (at-end ps i h)
 
-pub total-end : (ps : List ℕ) (i : ℕ) → length ps ≤ i + 1 → total (whole (drop i ps)) ≡ 0
-unfolding total
-total-end ps i h = ap total (at-end ps i h)
+pub total-end : (ps : List ℕ) (i : ℕ) → length ps ≤ i + 1 → runSum (wholePairs (drop i ps)) ≡ 0
+unfolding runSum
+total-end ps i h = ap runSum (at-end ps i h)
 
 pub numbers-start : (through count : ℕ) (ps : List ℕ) →
-    numbers through count ps ≡ (through ∷ falling (through - 1) count) ++ left ps 0 (through - count - 1)
-unfolding numbers named flags
+    expansion through count ps ≡ (through ∷ falling (through - 1) count) ++ left ps 0 (through - count - 1)
+unfolding expansion named flags
 numbers-start through count ps =
     let e : through - 1 - count ≡ through - count - 1 = omega arith in
-    ap (λ x. through ∷ x) (named-take (through - 1) count (flags false (whole ps)) ∙ rw e)
+    ap (λ x. through ∷ x) (named-take (through - 1) count (flags false (wholePairs ps)) ∙ rw e)
 
 pub length-numbers : (through count : ℕ) (ps : List ℕ) →
-    length (numbers through count ps) ≡ 1 + count + length (left ps 0 (through - count - 1))
+    length (expansion through count ps) ≡ 1 + count + length (left ps 0 (through - count - 1))
 length-numbers through count ps =
     ap length (numbers-start through count ps)
     ∙ length-append (through ∷ falling (through - 1) count) (left ps 0 (through - count - 1))

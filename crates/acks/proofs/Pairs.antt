@@ -6,8 +6,8 @@ use Prim.Native.Nat.{ℕ, suc, _+_, _-_, _≤_, _<_, _%_, min}
 use native.Mathlib.Omega.{arith}
 use lib.ListN.{length, drop, set, replicate, length-append}
 use lib.Seq.{set-append-seam}
-use Rattle.acks.specs.Runs.{leading, rest}
-use Rattle.acks.specs.Reporting.{view, filled, reportOf, shown, silent}
+use Rattle.acks.specs.Runs.{leading, laterRuns}
+use Rattle.acks.specs.Reporting.{view, padded, reportOf, reportOfRuns, silent}
 use Rattle.acks.specs.Tracking.{mark}
 use Rattle.acks.proofs.RunLengths.{runs-leading, rest-true, rest-false, leading-drop, leading-le, leading-other}
 use Rattle.acks.proofs.View.{length-view, view-drop}
@@ -35,7 +35,7 @@ pub record Turn (m : List ℕ) (top k used nack ack : ℕ) : Type 0 where
   pub some : 0 < nack
   pub within : used + nack + ack ≤ k
   pub more : used + nack < k → 0 < ack
-  pub shows : rest true (from m top k used) ≡ nack ∷ (ack ∷ rest true (from m top k (used + nack + ack)))
+  pub shows : laterRuns true (from m top k used) ≡ nack ∷ (ack ∷ laterRuns true (from m top k (used + nack + ack)))
   pub next : leading true (from m top k (used + nack + ack)) ≡ 0
 
 module _ (m : List ℕ) (top k used nack ack : ℕ) (h : used < k) (e : leading true (from m top k used) ≡ 0)
@@ -77,30 +77,30 @@ module _ (m : List ℕ) (top k used nack ack : ℕ) (h : used < k) (e : leading 
 more-room : (n : ℕ) → n < 254 → 254 - n ≡ suc (254 - (n + 1))
 more-room n h = omega arith
 
-filled-one : (w : List ℕ) (v : ℕ) → length w < 254 → set (filled w) (length w) v ≡ filled (w ++ (v ∷ []))
-unfolding filled
+filled-one : (w : List ℕ) (v : ℕ) → length w < 254 → set (padded w) (length w) v ≡ padded (w ++ (v ∷ []))
+unfolding padded
 filled-one w v h =
     rw (more-room (length w) h)
     (set-append-seam w 0 (replicate (254 - (length w + 1)) 0) v
     ∙ rw (length-append w (v ∷ [])) (sym (append-assoc w (v ∷ []) (replicate (254 - (length w + 1)) 0))))
 
-pub filled-two : (w : List ℕ) (a b : ℕ) → length w + 1 < 254 → set (set (filled w) (length w) a) (length w + 1) b ≡ filled (w ++ (a ∷ (b ∷ [])))
+pub filled-two : (w : List ℕ) (a b : ℕ) → length w + 1 < 254 → set (set (padded w) (length w) a) (length w + 1) b ≡ padded (w ++ (a ∷ (b ∷ [])))
 filled-two w a b h =
     let l : length (w ++ (a ∷ [])) ≡ length w + 1 = length-append w (a ∷ []) in
     let q : length w < 254 = omega arith in
     let p : length (w ++ (a ∷ [])) < 254 = omega arith in
     ap (λ x. set x (length w + 1) b) (filled-one w a q)
-    ∙ ap (λ i. set (filled (w ++ (a ∷ []))) i b) (sym l)
+    ∙ ap (λ i. set (padded (w ++ (a ∷ []))) i b) (sym l)
     ∙ filled-one (w ++ (a ∷ [])) b p
-    ∙ ap filled (append-assoc w (a ∷ []) (b ∷ []))
+    ∙ ap padded (append-assoc w (a ∷ []) (b ∷ []))
 
 -- what the loop has written, and what is left
 pub record Sofar (m : List ℕ) (top k : ℕ) (bytes : List ℕ) (len used : ℕ) : Type 0 where
   pub w : List ℕ
   pub below : used ≤ k
-  pub written : bytes ≡ filled w
+  pub written : bytes ≡ padded w
   pub counted : len ≡ length w
-  pub whole : rest true (view m top k) ≡ w ++ rest true (from m top k used)
+  pub whole : laterRuns true (view m top k) ≡ w ++ laterRuns true (from m top k used)
   pub missing : leading true (from m top k used) ≡ 0
   pub even : len % 2 ≡ 0
   pub short : used < k → len ≤ used
@@ -121,7 +121,7 @@ module _ (m : List ℕ) (top k : ℕ) (bytes : List ℕ) (len used nack ack : �
             (filled-two (s .w) nack ack (let q : length (s .w) + 1 < 254 = omega (arith, room, s .counted) in q));
         counted = omega (arith, s .counted, length-append (s .w) (nack ∷ (ack ∷ [])));
         whole =
-            s .whole ∙ ap (λ l. s .w ++ l) (t .shows) ∙ sym (append-assoc (s .w) (nack ∷ (ack ∷ [])) (rest true (from m top k (used + nack + ack))));
+            s .whole ∙ ap (λ l. s .w ++ l) (t .shows) ∙ sym (append-assoc (s .w) (nack ∷ (ack ∷ [])) (laterRuns true (from m top k (used + nack + ack))));
         missing = t .next;
         even = omega (arith, s .even);
         short = λ l. (let q : used + nack < k = omega arith in omega (arith, t .more q, t .some, s .short h));
@@ -134,11 +134,11 @@ after-count m top k c e = rw (← view-drop m c top k, e) (leading-drop true (vi
 
 -- a report by its parts
 pub reported : (m : List ℕ) (h k c : ℕ) → mark m h ≡ true → k ≡ min h 254 → c ≡ leading true (view m h k) →
-    reportOf h (mark m) ≡ shown h (c ∷ rest true (view m (h - c) (k - c)))
+    reportOf h (mark m) ≡ reportOfRuns h (c ∷ laterRuns true (view m (h - c) (k - c)))
 unfolding reportOf view
 reported m h k c e q l =
     rw (e, ← q)
-    (ap (shown h) (runs-leading true (view m h k) ∙ rw (← l) (ap (λ x. c ∷ rest true x) (view-drop m c h k))))
+    (ap (reportOfRuns h) (runs-leading true (view m h k) ∙ rw (← l) (ap (λ x. c ∷ laterRuns true x) (view-drop m c h k))))
 
 pub quiet : (m : List ℕ) (h : ℕ) → mark m h ≡ false → reportOf h (mark m) ≡ silent
 unfolding reportOf

@@ -14,19 +14,19 @@ use Rattle.wire.proofs.Numbers.{littleAt-again, length-little, littleAt-back}
 use Rattle.wire.proofs.Lent.{lent-part}
 use Rattle.acks.specs.declared.Tracker.{Tracker}
 use Rattle.acks.specs.History.{answerTo}
-use Rattle.acks.specs.Tracking.{held, marksAfter, acceptOf, answerOf, registerOf}
-use Rattle.acks.specs.Recorded.{short, trackerAt, bytesOf, registerThere, recordAfter}
+use Rattle.acks.specs.Tracking.{isDuplicate, marksAfter, acceptOf, registerAnswer, registerOf}
+use Rattle.acks.specs.Recorded.{trackerShort, trackerAt, trackerBytes, registerThere, recordAfter}
 
 add-zero-of : (k n : ℕ) → n ≡ k → n + 0 ≡ k
 add-zero-of k n e = omega arith
 
 module _ (r : List ℕ) where
-  pub is-short : length r < 259 → short r ≡ true
-  unfolding short
+  pub is-short : length r < 259 → trackerShort r ≡ true
+  unfolding trackerShort
   is-short h = lt-ltb (length r) 259 h
 
-  pub is-long : 259 ≤ length r → short r ≡ false
-  unfolding short
+  pub is-long : 259 ≤ length r → trackerShort r ≡ false
+  unfolding trackerShort
   is-long h = le-ltb (length r) 259 h
 
   pub short-refused : (n : ℕ) → length r < 259 → (59 ≡ registerThere r n) × (r ≡ recordAfter r n)
@@ -34,16 +34,16 @@ module _ (r : List ℕ) where
   short-refused n h = (rw (is-short h), rw (is-short h))
 
   -- bytes, read as a tracker and put back
-  put-back : 259 ≤ length r → Bytes r → splice r 0 (bytesOf (trackerAt r)) ≡ r
-  unfolding bytesOf trackerAt
+  put-back : 259 ≤ length r → Bytes r → splice r 0 (trackerBytes (trackerAt r)) ≡ r
+  unfolding trackerBytes trackerAt
   put-back long bytes =
       ap (λ (l : List ℕ). splice r 0 (l ++ part r 4 255)) (littleAt-again 4 r 0 (omega arith) bytes)
       ∙ ap (splice r 0) (sym (part-add r 0 4 255))
       ∙ splice-part r 0 259 long
 
   -- a tracker's bytes, read as a tracker
-  pub read-back : (t : Tracker) → 259 ≤ length r → t .highest < 256 ^ 4 → length (t .marks) ≡ 255 → trackerAt (splice r 0 (bytesOf t)) ≡ t
-  unfolding trackerAt bytesOf
+  pub read-back : (t : Tracker) → 259 ≤ length r → t .highest < 256 ^ 4 → length (t .marks) ≡ 255 → trackerAt (splice r 0 (trackerBytes t)) ≡ t
+  unfolding trackerAt trackerBytes
   read-back t long small size =
       let h : List ℕ = littleBytes 4 (t .highest) in
       let four : length (littleBytes 4 (t .highest)) ≡ 4 = length-little 4 (t .highest) in
@@ -61,18 +61,18 @@ module _ (r : List ℕ) where
 
   module _ (top n : ℕ) (is-top : top ≡ littleAt 4 r 0) (long : 259 ≤ length r) where
     -- a refusal leaves every byte
-    pub refused : (a : ℕ) → Bytes r → a ≡ answerTo top (held top (part r 4 255)) n → (a ≡ 0 → ⊥) → (a ≡ registerThere r n) × (r ≡ recordAfter r n)
-    unfolding registerThere recordAfter registerOf answerOf trackerAt
+    pub refused : (a : ℕ) → Bytes r → a ≡ answerTo top (isDuplicate top (part r 4 255)) n → (a ≡ 0 → ⊥) → (a ≡ registerThere r n) × (r ≡ recordAfter r n)
+    unfolding registerThere recordAfter registerOf registerAnswer trackerAt
     refused a bytes e ne =
-        let f : a ≡ answerTo (littleAt 4 r 0) (held (littleAt 4 r 0) (part r 4 255)) n = e ∙ ap (λ t. answerTo t (held t (part r 4 255)) n) is-top in
+        let f : a ≡ answerTo (littleAt 4 r 0) (isDuplicate (littleAt 4 r 0) (part r 4 255)) n = e ∙ ap (λ t. answerTo t (isDuplicate t (part r 4 255)) n) is-top in
         (rw (is-long long) f, rw (is-long long, sym f, ne-eqb a 0 ne) (sym (put-back long bytes)))
 
     -- an accepted number: the highest was put, then the marks
-    pub registered : (r1 m : List ℕ) → 0 ≡ answerTo top (held top (part r 4 255)) n → r1 ≡ splice r 0 (littleBytes 4 (max top n)) →
+    pub registered : (r1 m : List ℕ) → 0 ≡ answerTo top (isDuplicate top (part r 4 255)) n → r1 ≡ splice r 0 (littleBytes 4 (max top n)) →
         length m ≡ 255 → m ≡ marksAfter (part r1 4 255) top n → (0 ≡ registerThere r n) × (putMid 4 255 r1 m ≡ recordAfter r n)
-    unfolding registerThere recordAfter registerOf answerOf acceptOf trackerAt bytesOf
+    unfolding registerThere recordAfter registerOf registerAnswer acceptOf trackerAt trackerBytes
     registered r1 m e put size marks =
-        let f : 0 ≡ answerTo (littleAt 4 r 0) (held (littleAt 4 r 0) (part r 4 255)) n = e ∙ ap (λ t. answerTo t (held t (part r 4 255)) n) is-top in
+        let f : 0 ≡ answerTo (littleAt 4 r 0) (isDuplicate (littleAt 4 r 0) (part r 4 255)) n = e ∙ ap (λ t. answerTo t (isDuplicate t (part r 4 255)) n) is-top in
         let hi : length (littleBytes 4 (max top n)) ≡ 4 = length-little 4 (max top n) in
         let four : 4 ≡ 0 + length (littleBytes 4 (max top n)) = omega arith in
         let kept : part r1 4 255 ≡ part r 4 255 =

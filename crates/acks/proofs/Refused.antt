@@ -16,19 +16,19 @@ use Rattle.blocks.proofs.Refused as Blocks
 use Rattle.acks.specs.declared.Tracker.{Tracker}
 use Rattle.acks.specs.declared.AckInfo.{AckInfo}
 use Rattle.acks.specs.History.{answerTo}
-use Rattle.acks.specs.Tracking.{mark, held, answerOf, registerOf}
-use Rattle.acks.specs.Reporting.{refusal, silent, pairBytes, reportOf, ackInfo}
-use Rattle.acks.specs.Recorded.{short, trackerAt, registerThere, recordAfter, duplicateThere, reportThere}
+use Rattle.acks.specs.Tracking.{mark, isDuplicate, registerAnswer, registerOf}
+use Rattle.acks.specs.Reporting.{refusedReport, silent, pairBytes, reportOf, ackInfo}
+use Rattle.acks.specs.Recorded.{trackerShort, trackerAt, registerThere, recordAfter, duplicateThere, reportThere}
 use Rattle.acks.specs.AckBlocks.{ackBlock, ackWriting, ackRoom}
-use Rattle.acks.specs.Runs.{whole, total}
-use Rattle.acks.specs.Expanding.{numbers, expandAnswer, expandOf, listAfter}
+use Rattle.acks.specs.Runs.{wholePairs, runSum}
+use Rattle.acks.specs.Expanding.{expansion, expandAnswer, expandOf, listAfter}
 use Rattle.acks.proofs.Faithful.{faithful, unheard}
 use Rattle.acks.proofs.Recording as Recording
 
 -- a tracker by value
 pub tracker-stays : (t : Tracker) (n : ℕ) → (registerOf t n .answer ≡ 0 → ⊥) → registerOf t n .tracker ≡ t
 unfolding registerOf
-tracker-stays t n ne = rw (ne-eqb (answerOf t n) 0 ne)
+tracker-stays t n ne = rw (ne-eqb (registerAnswer t n) 0 ne)
 
 -- 40, 42 or 43, or 0
 answers : (top : ℕ) (got : ℕ → Bool) (n : ℕ) → (answerTo top got n ≡ 0 → ⊥) → OneOf (40 ∷ 42 ∷ 43 ∷ []) (answerTo top got n)
@@ -42,12 +42,12 @@ answers top got n = go (ltb (top + 255) n) (leb (n + 255) top) (got n)
     go false false false ne = absurd (ne refl)
 
 pub tracker-numbers : (t : Tracker) (n : ℕ) → (registerOf t n .answer ≡ 0 → ⊥) → OneOf (40 ∷ 42 ∷ 43 ∷ []) (registerOf t n .answer)
-unfolding registerOf answerOf
-tracker-numbers t n = answers (t .highest) (held (t .highest) (t .marks)) n
+unfolding registerOf registerAnswer
+tracker-numbers t n = answers (t .highest) (isDuplicate (t .highest) (t .marks)) n
 
 -- a tracker's record
 pub record-stays : (r : List ℕ) (n : ℕ) → Bytes r → (registerThere r n ≡ 0 → ⊥) → recordAfter r n ≡ r
-unfolding short registerThere registerOf answerOf trackerAt
+unfolding trackerShort registerThere registerOf registerAnswer trackerAt
 record-stays r n bytes = go (ltb (length r) 259) refl
   where
     go : (b : Bool) → ltb (length r) 259 ≡ b → (registerThere r n ≡ 0 → ⊥) → recordAfter r n ≡ r
@@ -56,7 +56,7 @@ record-stays r n bytes = go (ltb (length r) 259) refl
 
 pub record-numbers : (r : List ℕ) (n : ℕ) → (registerThere r n ≡ 0 → ⊥) → OneOf (40 ∷ 42 ∷ 43 ∷ 59 ∷ []) (registerThere r n)
 unfolding registerThere
-record-numbers r n = go (short r)
+record-numbers r n = go (trackerShort r)
   where
     more : (m : ℕ) → OneOf (40 ∷ 42 ∷ 43 ∷ []) m → OneOf (40 ∷ 42 ∷ 43 ∷ 59 ∷ []) m
     more m (inl e) = inl e
@@ -70,7 +70,7 @@ record-numbers r n = go (short r)
 -- a report's number is 0, and then its pairs are whole and few, or 41
 module _ (top : ℕ) (got : ℕ → Bool) where
   is-41 : (reportOf top got .number ≡ 0 → ⊥) → reportOf top got .number ≡ 41
-  unfolding refusal
+  unfolding refusedReport
   is-41 = go (got top) refl
     where
       go : (b : Bool) → got top ≡ b → (reportOf top got .number ≡ 0 → ⊥) → reportOf top got .number ≡ 41
@@ -78,7 +78,7 @@ module _ (top : ℕ) (got : ℕ → Bool) where
       go false e ne = ap (λ (z : AckInfo). z .number) (unheard top got e)
 
   is-paired : reportOf top got .number ≡ 0 → (length (pairBytes (reportOf top got)) % 2 ≡ 0) × (length (pairBytes (reportOf top got)) ≤ 254)
-  unfolding refusal
+  unfolding refusedReport
   is-paired z = go (got top) refl
     where
       go : (b : Bool) → got top ≡ b → (length (pairBytes (reportOf top got)) % 2 ≡ 0) × (length (pairBytes (reportOf top got)) ≤ 254)
@@ -91,17 +91,17 @@ unfolding ackInfo
 tracker-report t = is-41 (t .highest) (mark (t .marks))
 
 pub report-numbers : (r : List ℕ) → (reportThere r .number ≡ 0 → ⊥) → OneOf (41 ∷ 59 ∷ []) (reportThere r .number)
-unfolding reportThere refusal
-report-numbers r = go (short r)
+unfolding reportThere refusedReport
+report-numbers r = go (trackerShort r)
   where
-    go : (b : Bool) → (cond b (refusal 59) (ackInfo (trackerAt r)) .number ≡ 0 → ⊥) → OneOf (41 ∷ 59 ∷ []) (cond b (refusal 59) (ackInfo (trackerAt r)) .number)
+    go : (b : Bool) → (cond b (refusedReport 59) (ackInfo (trackerAt r)) .number ≡ 0 → ⊥) → OneOf (41 ∷ 59 ∷ []) (cond b (refusedReport 59) (ackInfo (trackerAt r)) .number)
     go true ne = inr refl
     go false ne = inl (tracker-report (trackerAt r) ne)
 
 -- no, yes or 59
 pub duplicate-numbers : (r : List ℕ) (n : ℕ) → OneOf (0 ∷ 1 ∷ 59 ∷ []) (duplicateThere r n)
 unfolding duplicateThere
-duplicate-numbers r n = go (short r) (held (trackerAt r .highest) (trackerAt r .marks) n)
+duplicate-numbers r n = go (trackerShort r) (isDuplicate (trackerAt r .highest) (trackerAt r .marks) n)
   where
     go : (a b : Bool) → OneOf (0 ∷ 1 ∷ 59 ∷ []) (cond a 59 (cond b 1 0))
     go true b = inr (inr refl)
@@ -118,11 +118,11 @@ ack-leaves r room m = go (eqb (r .number) 0)
     go false e = refl
 
 paired : (r : List ℕ) → reportThere r .number ≡ 0 → (length (pairBytes (reportThere r)) % 2 ≡ 0) × (length (pairBytes (reportThere r)) ≤ 254)
-unfolding reportThere refusal ackInfo
-paired r = by (short r)
+unfolding reportThere refusedReport ackInfo
+paired r = by (trackerShort r)
   where
-    by : (b : Bool) → cond b (refusal 59) (ackInfo (trackerAt r)) .number ≡ 0
-        → (length (pairBytes (cond b (refusal 59) (ackInfo (trackerAt r)))) % 2 ≡ 0) × (length (pairBytes (cond b (refusal 59) (ackInfo (trackerAt r)))) ≤ 254)
+    by : (b : Bool) → cond b (refusedReport 59) (ackInfo (trackerAt r)) .number ≡ 0
+        → (length (pairBytes (cond b (refusedReport 59) (ackInfo (trackerAt r)))) % 2 ≡ 0) × (length (pairBytes (cond b (refusedReport 59) (ackInfo (trackerAt r)))) ≤ 254)
     by true z = absurd (omega arith)
     by false z = is-paired (trackerAt r .highest) (mark (trackerAt r .marks)) z
 
@@ -142,11 +142,11 @@ ack-numbers r room m = go (eqb (reportThere r .number) 0) refl
 
 -- before any number: 41, and no block
 pub silent-is-41 : silent .number ≡ 41
-unfolding refusal
+unfolding refusedReport
 silent-is-41 = refl
 
 pub silent-unwritten : (room : ℕ) → ackWriting silent room ≡ Wrote.Refused 41
-unfolding ackWriting refusal
+unfolding ackWriting refusedReport
 silent-unwritten room = refl
 
 -- the list of an expansion
@@ -156,7 +156,7 @@ expand-leaves through count ps list ne = rw (ne-eqb (expandAnswer through count 
 
 pub expand-numbers : (through count : ℕ) (ps : List ℕ) (room : ℕ) → (expandOf through count ps room .number ≡ 0 → ⊥) → OneOf (44 ∷ 46 ∷ []) (expandOf through count ps room .number)
 unfolding expandOf expandAnswer
-expand-numbers through count ps room = go (ltb through (count + total (whole ps))) (ltb room (length (numbers through count ps)))
+expand-numbers through count ps room = go (ltb through (count + runSum (wholePairs ps))) (ltb room (length (expansion through count ps)))
   where
     go : (a b : Bool) → (_≡_ {A = ℕ} (cond a 44 (cond b 46 0)) 0 → ⊥) → OneOf (44 ∷ 46 ∷ []) (cond a 44 (cond b 46 0))
     go true b ne = inl refl

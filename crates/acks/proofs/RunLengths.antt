@@ -6,7 +6,7 @@ use Prim.Native.Nat.{ℕ, zero, suc, _+_, _≤_, _<_, suc-le-suc}
 use native.Mathlib.Omega.{arith}
 use native.Mathlib.Nat.{suc-add, zero-add}
 use lib.ListN.{length, drop}
-use Rattle.acks.specs.Runs.{inc, runs, flags, leading, rest}
+use Rattle.acks.specs.Runs.{inc, runs, flags, leading, laterRuns}
 
 pub flags-inc : (b : Bool) (r : List ℕ) → flags b (inc r) ≡ b ∷ flags b r
 unfolding flags inc
@@ -23,8 +23,8 @@ flags-runs true (false ∷ l) = flags-inc false (runs false l) ∙ ap (λ x. fal
 flags-runs false (false ∷ l) = flags-inc false (runs false l) ∙ ap (λ x. false ∷ x) (flags-runs false l)
 flags-runs false (true ∷ l) = flags-inc true (runs true l) ∙ ap (λ x. true ∷ x) (flags-runs true l)
 
-pub runs-leading : (b : Bool) (l : List Bool) → runs b l ≡ leading b l ∷ rest b (drop (leading b l) l)
-unfolding runs leading rest inc
+pub runs-leading : (b : Bool) (l : List Bool) → runs b l ≡ leading b l ∷ laterRuns b (drop (leading b l) l)
+unfolding runs leading laterRuns inc
 runs-leading true [] = refl
 runs-leading false [] = refl
 runs-leading true (true ∷ l) = ap inc (runs-leading true l)
@@ -32,13 +32,13 @@ runs-leading true (false ∷ l) = refl
 runs-leading false (false ∷ l) = ap inc (runs-leading false l)
 runs-leading false (true ∷ l) = refl
 
-pub rest-false : (l : List Bool) → rest false l ≡ leading true l ∷ rest true (drop (leading true l) l)
-unfolding rest leading
+pub rest-false : (l : List Bool) → laterRuns false l ≡ leading true l ∷ laterRuns true (drop (leading true l) l)
+unfolding laterRuns leading
 rest-false [] = refl
 rest-false (x ∷ l) = runs-leading true (x ∷ l)
 
-pub rest-true : (l : List Bool) → 0 < length l → rest true l ≡ leading false l ∷ rest false (drop (leading false l) l)
-unfolding rest
+pub rest-true : (l : List Bool) → 0 < length l → laterRuns true l ≡ leading false l ∷ laterRuns false (drop (leading false l) l)
+unfolding laterRuns
 rest-true [] h = absurd (omega arith)
 rest-true (x ∷ l) h = runs-leading false (x ∷ l)
 

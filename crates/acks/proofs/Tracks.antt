@@ -12,7 +12,7 @@ use borrow.Author.Tests.{lt-leb, le-leb, le-ltb, lt-ltb, eq-eqb, ne-eqb, eqb-tru
 use Rattle.acks.specs.declared.Tracker.{Tracker}
 use Rattle.acks.specs.Window.{inWindow}
 use Rattle.acks.specs.History.{answerTo, highestOf, among, receive, noted, receivedAfter, received}
-use Rattle.acks.specs.Tracking.{mark, fresh, held, clearUp, marksAfter, acceptOf, answerOf, registerOf, registerAll}
+use Rattle.acks.specs.Tracking.{mark, fresh, isDuplicate, clearUp, marksAfter, acceptOf, registerAnswer, registerOf, registerAll}
 use Rattle.acks.proofs.Ring.{split, length-clear, mod-in, mark-same, mark-above, mark-below, clear-below, clear-in}
 
 -- a tracker holds what was received: top is the highest number and got says which were
@@ -25,16 +25,16 @@ pub record Tracks (top : ℕ) (got : ℕ → Bool) (t : Tracker) : Type 0 where
 
 module _ {top : ℕ} {got : ℕ → Bool} {t : Tracker} (w : Tracks top got t) where
   -- ---- asking
-  held-got : (n : ℕ) → top < n + 255 → held (t .highest) (t .marks) n ≡ got n
-  unfolding held inWindow
+  held-got : (n : ℕ) → top < n + 255 → isDuplicate (t .highest) (t .marks) n ≡ got n
+  unfolding isDuplicate inWindow
   held-got n g =
       ⊎-elim
       (λ lt. rw (w .same, lt-leb n top lt) (sym (w .above n lt)))
       (λ le. rw (w .same, le-leb n top le, lt-ltb top (n + 255) g) (w .inside n le g))
       (split top n)
 
-  pub held-is : (n : ℕ) → held (t .highest) (t .marks) n ≡ (inWindow top n && got n)
-  unfolding held inWindow
+  pub held-is : (n : ℕ) → isDuplicate (t .highest) (t .marks) n ≡ (inWindow top n && got n)
+  unfolding isDuplicate inWindow
   held-is n =
       ⊎-elim
       (λ lt. rw (w .same, lt-leb n top lt))
@@ -45,8 +45,8 @@ module _ {top : ℕ} {got : ℕ → Bool} {t : Tracker} (w : Tracks top got t) w
       (split top (n + 255)))
       (split top n)
 
-  pub answer-is : (n : ℕ) → answerOf t n ≡ answerTo top got n
-  unfolding answerOf answerTo
+  pub answer-is : (n : ℕ) → registerAnswer t n ≡ answerTo top got n
+  unfolding registerAnswer answerTo
   answer-is n =
       ⊎-elim
       (λ g. rw (held-got n g, w .same))
@@ -185,7 +185,7 @@ module _ {l : List ℕ} {t : Tracker} (f : Follows l t) (n : ℕ) where
   unfolding noted registerOf
   follows-step = go (eqb (answerTo (highestOf l) (among l) n) 0) refl
     where
-      go : (b : Bool) → eqb (answerTo (highestOf l) (among l) n) 0 ≡ b → Follows (cond b (receive l n) l) (cond (eqb (answerOf t n) 0) (acceptOf t n) t)
+      go : (b : Bool) → eqb (answerTo (highestOf l) (among l) n) 0 ≡ b → Follows (cond b (receive l n) l) (cond (eqb (registerAnswer t n) 0) (acceptOf t n) t)
       go true e = rw (answer-is (f .tracks) n, e) (follows-accept (eqb-true _ 0 e))
       go false e = rw (answer-is (f .tracks) n, e) f
 

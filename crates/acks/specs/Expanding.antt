@@ -5,27 +5,27 @@ use Prim.Native.Nat.{ℕ, _+_}
 use lib.Dec.{ltb, eqb}
 use lib.ListN.{length}
 use Rattle.wire.specs.Parts.{splice}
-use Rattle.acks.specs.Runs.{flags, named, whole, total}
+use Rattle.acks.specs.Runs.{flags, named, wholePairs, runSum}
 use Rattle.acks.specs.declared.Expanded.{Expanded}
 
 -- the through number, count numbers below it, then each pair skips and names
-unfoldable pub numbers : ℕ → ℕ → List ℕ → List ℕ
-numbers through count pairs = named through (true ∷ flags true (count ∷ whole pairs))
+unfoldable pub expansion : ℕ → ℕ → List ℕ → List ℕ
+expansion through count pairs = named through (true ∷ flags true (count ∷ wholePairs pairs))
 
 -- 44 where count and pairs, nacks included, go below 0; 46 where the list has less room than there are numbers
 unfoldable pub expandAnswer : ℕ → ℕ → List ℕ → ℕ → ℕ
 expandAnswer through count pairs room =
-    cond (ltb through (count + total (whole pairs))) 44 (cond (ltb room (length (numbers through count pairs))) 46 0)
+    cond (ltb through (count + runSum (wholePairs pairs))) 44 (cond (ltb room (length (expansion through count pairs))) 46 0)
 
 -- what expanding answers, into a list of so much room
 unfoldable pub expandOf : ℕ → ℕ → List ℕ → ℕ → Expanded
 expandOf through count pairs room =
     record {
       number = expandAnswer through count pairs room;
-      count = cond (eqb (expandAnswer through count pairs room) 0) (length (numbers through count pairs)) 0;
+      count = cond (eqb (expandAnswer through count pairs room) 0) (length (expansion through count pairs)) 0;
     }
 
 -- what it leaves in the list: the numbers in front and the rest as it was; refused, all of it as it was
 unfoldable pub listAfter : ℕ → ℕ → List ℕ → List ℕ → List ℕ
 listAfter through count pairs list =
-    cond (eqb (expandAnswer through count pairs (length list)) 0) (splice list 0 (numbers through count pairs)) list
+    cond (eqb (expandAnswer through count pairs (length list)) 0) (splice list 0 (expansion through count pairs)) list

@@ -14,25 +14,25 @@ unfoldable pub view : List ℕ → ℕ → ℕ → List Bool
 view m n k = map (mark m) (falling (n - 1) k)
 
 -- at most 254 bytes at the front of 254
-unfoldable pub filled : List ℕ → List ℕ
-filled l = l ++ replicate (254 - length l) 0
+unfoldable pub padded : List ℕ → List ℕ
+padded l = l ++ replicate (254 - length l) 0
 
 -- a refused report: its number, and nothing else
-unfoldable pub refusal : ℕ → AckInfo
-refusal number = record { number = number; through = 0; count = 0; len = 0; pairs = filled [] }
+unfoldable pub refusedReport : ℕ → AckInfo
+refusedReport number = record { number = number; through = 0; count = 0; len = 0; pairs = padded [] }
 
 -- 41, before any number
 abbrev pub silent : AckInfo
-silent = refusal 41
+silent = refusedReport 41
 
 -- run lengths as a report: the first is the count of received numbers, the others are the pairs
-unfoldable pub shown : ℕ → List ℕ → AckInfo
-shown top [] = silent
-shown top (c ∷ ps) = record { number = 0; through = top; count = c; len = length ps; pairs = filled ps }
+unfoldable pub reportOfRuns : ℕ → List ℕ → AckInfo
+reportOfRuns top [] = silent
+reportOfRuns top (c ∷ ps) = record { number = 0; through = top; count = c; len = length ps; pairs = padded ps }
 
 -- the report where top is the highest and got says which were received: the runs of the numbers below top, down to the window's end
 unfoldable pub reportOf : ℕ → (ℕ → Bool) → AckInfo
-reportOf top got = cond (got top) (shown top (runs true (map got (falling (top - 1) (min top 254))))) silent
+reportOf top got = cond (got top) (reportOfRuns top (runs true (map got (falling (top - 1) (min top 254))))) silent
 
 -- what a tracker reports: it has seen a number where the highest is marked
 unfoldable pub ackInfo : Tracker → AckInfo

@@ -28,11 +28,11 @@ leading false (false ∷ l) = suc (leading false l)
 leading false (true ∷ l) = 0
 
 -- the runs that follow a run of b's
-unfoldable pub rest : Bool → List Bool → List ℕ
-rest true [] = []
-rest false [] = 0 ∷ []
-rest true (x ∷ l) = runs false (x ∷ l)
-rest false (x ∷ l) = runs true (x ∷ l)
+unfoldable pub laterRuns : Bool → List Bool → List ℕ
+laterRuns true [] = []
+laterRuns false [] = 0 ∷ []
+laterRuns true (x ∷ l) = runs false (x ∷ l)
+laterRuns false (x ∷ l) = runs true (x ∷ l)
 
 -- what run lengths stand for: so many b's, then so many of the other, and so on
 unfoldable pub flags : Bool → List ℕ → List Bool
@@ -46,10 +46,10 @@ named n (true ∷ l) = n ∷ named (n - 1) l
 named n (false ∷ l) = named (n - 1) l
 
 -- whole pairs: an odd last number is dropped
-unfoldable pub whole : List ℕ → List ℕ
-whole l = take (length l - length l % 2) l
+unfoldable pub wholePairs : List ℕ → List ℕ
+wholePairs l = take (length l - length l % 2) l
 
 -- the sum of some numbers
-unfoldable pub total : List ℕ → ℕ
-total [] = 0
-total (n ∷ l) = n + total l
+unfoldable pub runSum : List ℕ → ℕ
+runSum [] = 0
+runSum (n ∷ l) = n + runSum l

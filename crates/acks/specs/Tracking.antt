@@ -18,8 +18,8 @@ unfoldable pub mark : List ℕ → ℕ → Bool
 mark m n = not (eqb (getD m (n % 255) 0) 0)
 
 -- a duplicate: in the window and received
-unfoldable pub held : ℕ → List ℕ → ℕ → Bool
-held top m n = inWindow top n && mark m n
+unfoldable pub isDuplicate : ℕ → List ℕ → ℕ → Bool
+isDuplicate top m n = inWindow top n && mark m n
 
 -- the marks with those of d numbers, from a upward, unset
 unfoldable pub clearUp : List ℕ → ℕ → ℕ → List ℕ
@@ -35,12 +35,12 @@ unfoldable pub acceptOf : Tracker → ℕ → Tracker
 acceptOf t n = record { highest = max (t .highest) n; marks = marksAfter (t .marks) (t .highest) n }
 
 -- what a registration answers
-unfoldable pub answerOf : Tracker → ℕ → ℕ
-answerOf t n = answerTo (t .highest) (held (t .highest) (t .marks)) n
+unfoldable pub registerAnswer : Tracker → ℕ → ℕ
+registerAnswer t n = answerTo (t .highest) (isDuplicate (t .highest) (t .marks)) n
 
 -- a registration: the answer, and the tracker, unchanged by a refusal
 unfoldable pub registerOf : Tracker → ℕ → Registered
-registerOf t n = record { answer = answerOf t n; tracker = cond (eqb (answerOf t n) 0) (acceptOf t n) t }
+registerOf t n = record { answer = registerAnswer t n; tracker = cond (eqb (registerAnswer t n) 0) (acceptOf t n) t }
 
 -- a tracker after calls of register, the first call first
 unfoldable pub registerAll : Tracker → List ℕ → Tracker

@@ -9,8 +9,8 @@ use blocks::Read;
 fn duplicate(text: &[u8], at: usize, t: Tracker, bytes: [u8; 259]) -> bool {
     let n = fields::number(text, at);
     let want = fields::number(text, lines::after(text, at));
-    let there = tracker::recorded::is_duplicate_in(&bytes, n);
-    (tracker::is_duplicate(t, n) == (want == 1)) & (there == want)
+    let there = acks_tracker::recorded::is_duplicate_in(&bytes, n);
+    (acks_tracker::is_duplicate(t, n) == (want == 1)) & (there == want)
 }
 
 fn same_pairs(pairs: [u8; 254], want: [u8; 254]) -> bool {
@@ -63,7 +63,7 @@ fn like_oracle(text: &[u8], at: usize, t: Tracker) -> bool {
     let second = lines::after(text, at);
     let through = fields::number(text, second);
     let count = fields::small(text, lines::after(text, second));
-    let a = reports::report(t);
+    let a = acks_reports::report(t);
     let m = expanded::named_of(a, &mut mine);
     let n = expanded::named_at(text, at, through, count, &mut theirs);
     same_window(&theirs, n, &mine, m, a.through)
@@ -71,7 +71,7 @@ fn like_oracle(text: &[u8], at: usize, t: Tracker) -> bool {
 
 // How many numbers an Ack block at a room's start names, into a list; 0 where it is refused or none.
 fn named_in(room: &[u8], list: &mut [u32; 512]) -> usize {
-    let read = reader::read_block(room, 0);
+    let read = blocks_reader::read_block(room, 0);
     let Read::Block {
         block,
         size: _,
@@ -88,7 +88,7 @@ fn named_in(room: &[u8], list: &mut [u32; 512]) -> usize {
     else {
         return 0;
     };
-    expand::expand_ack(room, through, count, pairs, list).count
+    acks_expand::expand_ack(room, through, count, pairs, list).count
 }
 
 // Whether a report, written as an Ack block, read back and expanded, names what it names itself.
@@ -97,7 +97,7 @@ fn comes_back(a: AckInfo) -> bool {
     let mut mine = [0u32; 512];
     let mut theirs = [0u32; 512];
     let number = a.number;
-    reports::ack_block::write_ack(a, &mut room);
+    acks_reports::ack_block::write_ack(a, &mut room);
     if number != 0 {
         return named_in(&room, &mut theirs) == 0;
     }
@@ -111,8 +111,8 @@ pub(crate) fn line(kind: u8, text: &[u8], at: usize, t: Tracker, bytes: [u8; 259
         return duplicate(text, at, t, bytes);
     }
     if kind == b'a' {
-        let there = reports(reports::report_in(&bytes), text, at);
-        let a = reports::report(t);
+        let there = reports(acks_reports::report_in(&bytes), text, at);
+        let a = acks_reports::report(t);
         return there & reports(a, text, at) & comes_back(a);
     }
     if kind == b'o' {

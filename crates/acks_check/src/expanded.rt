@@ -15,7 +15,7 @@ pub(crate) fn named_at(
 ) -> usize {
     let mut pairs = [0u8; 512];
     let n = fields::bytes(text, at, &mut pairs);
-    expand::expand(through, count, &pairs[..n], list).count
+    acks_expand::expand(through, count, &pairs[..n], list).count
 }
 
 // How many numbers a report names.
@@ -25,7 +25,7 @@ pub(crate) fn named_of(a: AckInfo, list: &mut [u32; 512]) -> usize {
     if 254 < len {
         return 0;
     }
-    expand::expand(a.through, a.count, &pairs[..len], list).count
+    acks_expand::expand(a.through, a.count, &pairs[..len], list).count
 }
 
 // Whether the first n numbers of a list are those of some bytes.
@@ -35,7 +35,7 @@ fn same_list(list: &[u32; 512], want: &[u8], n: usize) -> bool
     let mut ok = true;
     let mut i = 0;
     while i < n {
-        ok = ok & (list[i] == wire_reads::be_u32(want, 4 * i));
+        ok = ok & (list[i] == wire_numbers::be_u32(want, 4 * i));
         i += 1;
     }
     ok
@@ -63,7 +63,7 @@ struct Filled {
 fn expands(through: u32, count: u8, pairs: &[u8], want: &[u8]) -> Filled {
     let mut list = sevens();
     let room = room_of(want.len());
-    let e = expand::expand(through, count, pairs, &mut list[..room]);
+    let e = acks_expand::expand(through, count, pairs, &mut list[..room]);
     let same = same_list(&list, want, room);
     Filled {
         number: e.number,

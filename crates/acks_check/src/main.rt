@@ -25,7 +25,7 @@ fn start(n: u32, bytes: &mut [u8; 259]) -> Tracker {
     let i = (n % 255) as usize;
     marks[i] = 1;
     fresh[4 + i] = 1;
-    wire_puts::put_u32_le(&mut fresh, 0, n);
+    wire_numbers::put_u32_le(&mut fresh, 0, n);
     *bytes = fresh;
     Tracker { highest: n, marks }
 }
@@ -34,8 +34,8 @@ fn start(n: u32, bytes: &mut [u8; 259]) -> Tracker {
 fn register(text: &[u8], at: usize, t: Tracker, bytes: &mut [u8; 259]) -> Turn {
     let n = fields::number(text, at);
     let want = fields::number(text, lines::after(text, at));
-    let r = tracker::register(t, n);
-    let there = tracker::recorded::register_in(bytes, n);
+    let r = acks_tracker::register(t, n);
+    let there = acks_tracker::recorded::register_in(bytes, n);
     let next = r.tracker;
     Turn {
         ok: (r.answer == want) & (there == want),
@@ -51,7 +51,7 @@ fn line(text: &[u8], at: usize, t: Tracker, bytes: &mut [u8; 259]) -> Turn {
         *bytes = empty();
         return Turn {
             ok: true,
-            tracker: tracker::new(),
+            tracker: acks_tracker::new(),
         };
     }
     if kind == b's' {
@@ -92,7 +92,7 @@ fn run(text: &[u8]) {
     let mut at = 0;
     let mut all: u64 = 0;
     let mut same: u64 = 0;
-    let mut tracker = tracker::new();
+    let mut tracker = acks_tracker::new();
     let mut bytes = empty();
     while at < text.len() {
         let turn = line(text, at, tracker, &mut bytes);

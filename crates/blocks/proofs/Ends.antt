@@ -10,7 +10,7 @@ use borrow.Author.Tests.{ltb-false, leb-true, leb-false, le-leb, lt-leb}
 use Rattle.blocks.specs.declared.Taken.{Taken}
 use Rattle.blocks.specs.declared.Taken.the-variants as Take
 use Rattle.blocks.specs.declared.Extent.the-variants as End
-use Rattle.blocks.specs.Extent.{listed, fitsIn, atLeast, routerInfo, i2np, firstFragment, followOn, pairsIn, address, takenAt, fieldsOf, kindAt, sizeAt, ends, extentAt}
+use Rattle.blocks.specs.Extent.{listed, takesBytes, atLeast, routerInfo, i2np, firstFragment, followOn, pairsIn, address, takenAt, fieldLengthOf, kindAt, sizeAt, ends, extentAt}
 use Rattle.blocks.specs.Sound.{bodyLength}
 use Rattle.blocks.proofs.Soundness.{taken-length}
 
@@ -28,7 +28,7 @@ if : {left f : ℕ} (b : Bool) {x y : Taken} → (b ≡ true → Holds left f x)
 if true p q = p refl
 if false p q = q refl
 
-fits : (left f need : ℕ) → f ≤ need → Holds left f (fitsIn need left)
+fits : (left f need : ℕ) → f ≤ need → Holds left f (takesBytes need left)
 fits left f need h = if (leb need left) (λ e. takes h (leb-true need left e)) (λ e. refuses)
 
 at-least : (f size : ℕ) → f ≤ atLeast f size
@@ -64,8 +64,8 @@ module _ (s : List ℕ) (body size : ℕ) where
   unfolding address
   in-address = if (ltb left 2) (λ _. refuses) (λ _. if (eqb size 6) (λ _. fits left 2 6 (omega arith)) (λ _. if (eqb size 18) (λ _. fits left 2 18 (omega arith)) (λ _. refuses)))
 
-  holds : (kind : ℕ) → Holds left (fieldsOf kind) (takenAt s body kind size)
-  unfolding takenAt fieldsOf
+  holds : (kind : ℕ) → Holds left (fieldLengthOf kind) (takenAt s body kind size)
+  unfolding takenAt fieldLengthOf
   holds kind =
       by (eqb kind 0) (fits left 4 4 (omega arith))
       (by (eqb kind 1) (fits left 12 (atLeast 12 size) (at-least 12 size))
@@ -84,8 +84,8 @@ module _ (s : List ℕ) (body size : ℕ) where
       (fits left 0 size (omega arith)))))))))))))))
 
   -- the bytes that a body takes
-  pub taken-holds : (kind n : ℕ) → takenAt s body kind size ≡ Take.Bytes n → (fieldsOf kind ≤ n) × (n ≤ length s - body)
-  taken-holds kind n e = apart (subst (Holds left (fieldsOf kind)) e (holds kind))
+  pub taken-holds : (kind n : ℕ) → takenAt s body kind size ≡ Take.Bytes n → (fieldLengthOf kind ≤ n) × (n ≤ length s - body)
+  taken-holds kind n e = apart (subst (Holds left (fieldLengthOf kind)) e (holds kind))
     where
       apart : {f : ℕ} → Holds left f (Take.Bytes n) → (f ≤ n) × (n ≤ left)
       apart (takes h g) = (h, g)
@@ -94,7 +94,7 @@ module _ (s : List ℕ) (body size : ℕ) where
 pub record Bounded (s : List ℕ) (at kind size next : ℕ) : Type 0 where
   pub is-kind : kindAt s at ≡ kind
   pub is-size : sizeAt s at ≡ size
-  pub fields : at + 3 + fieldsOf kind ≤ next
+  pub fields : at + 3 + fieldLengthOf kind ≤ next
   pub inside : next ≤ length s
   pub length-is : next ≡ at + 3 + bodyLength kind size
 
@@ -108,7 +108,7 @@ bounded s at kind size next e = whole (leb (at + 3) (length s)) refl e
         let z : sizeAt s at ≡ size = cc in
         let x : at + 3 + n ≡ next = cc in
         let t = taken-holds s (at + 3) (sizeAt s at) (kindAt s at) n q in
-        let g : fieldsOf kind ≤ n = subst (λ (j : ℕ). fieldsOf j ≤ n) k (t .0) in
+        let g : fieldLengthOf kind ≤ n = subst (λ (j : ℕ). fieldLengthOf j ≤ n) k (t .0) in
         let l : n ≡ bodyLength kind size = taken-length s (at + 3) (sizeAt s at) (kindAt s at) n q ∙ ap (λ (j : ℕ). bodyLength j (sizeAt s at)) k ∙ ap (bodyLength kind) z in
         record { is-kind = k; is-size = z; fields = omega arith; inside = omega (arith, t .1); length-is = sym x ∙ ap (λ (j : ℕ). at + 3 + j) l }
     body h (Take.Refused m) q f = let z : _≡_ {A = ℕ} 0 1 = cc in absurd (omega arith)

@@ -20,10 +20,10 @@ use Rattle.blocks.specs.declared.Extent.the-variants as End
 use Rattle.blocks.specs.declared.Read.the-variants as Got
 use Rattle.blocks.specs.declared.Written.{Written}
 use Rattle.blocks.specs.declared.Written.the-variants as Wrote
-use Rattle.blocks.specs.Extent.{listed, fitsIn, atLeast, routerInfo, i2np, firstFragment, followOn, pairsIn, address, takenAt, kindAt, sizeAt, ends, extentAt}
+use Rattle.blocks.specs.Extent.{listed, takesBytes, atLeast, routerInfo, i2np, firstFragment, followOn, pairsIn, address, takenAt, kindAt, sizeAt, ends, extentAt}
 use Rattle.blocks.specs.Reading.{blockAt, reading, readAt}
-use Rattle.blocks.specs.Writing.{kindOf, named, fieldBytes, bytesOf, sizeOf, written, faulty, writing, stored, roomAfter}
-use Rattle.blocks.specs.Claims.{shown, ReadThenWrite}
+use Rattle.blocks.specs.Writing.{kindOf, isNamed, fieldBytes, carriedBytes, sizeOf, blockBytes, faulty, writing, stored, roomAfter}
+use Rattle.blocks.specs.Claims.{shownBytes, ReadThenWrite}
 use Rattle.blocks.proofs.Ends.{bounded}
 use Rattle.blocks.proofs.Puts.{is-length}
 use Rattle.blocks.proofs.Types.{by-kind, opaque-is}
@@ -44,7 +44,7 @@ if : {P : ℕ → Type 0} (b : Bool) {x y : Taken} → (b ≡ true → Given P x
 if true p q = p refl
 if false p q = q refl
 
-fits : {P : ℕ → Type 0} (need left : ℕ) → P need → Given P (fitsIn need left)
+fits : {P : ℕ → Type 0} (need left : ℕ) → P need → Given P (takesBytes need left)
 fits need left p = if (leb need left) (λ e. takes p) (λ e. refuses)
 
 module _ (s : List ℕ) (o z : ℕ) where
@@ -96,15 +96,15 @@ follow-byte v h = big-one (v / 2 * 2 + cond (eqb (v % 2) 1) 1 0) ∙ ap (λ (x :
 module _ (s : List ℕ) (bytes : Bytes s) (o z : ℕ) where
   record Same (k n : ℕ) (b : Block) : Type 0 where
     is-kind : kindOf b ≡ k
-    is-bytes : fieldBytes b ++ bytesOf b (shown s b) ≡ part s o n
-    is-size : sizeOf b (shown s b) ≡ n
-    no-fault : faulty b (shown s b) ≡ false
+    is-bytes : fieldBytes b ++ carriedBytes b (shownBytes s b) ≡ part s o n
+    is-size : sizeOf b (shownBytes s b) ≡ n
+    no-fault : faulty b (shownBytes s b) ≡ false
 
   abbrev Goal : ℕ → Type 0
-  Goal k = (n : ℕ) → o + n ≤ length s → takenAt s o k z ≡ Take.Bytes n → z ≡ sizeOf (blockAt s o k n) (shown s (blockAt s o k n)) → Same k n (blockAt s o k n)
+  Goal k = (n : ℕ) → o + n ≤ length s → takenAt s o k z ≡ Take.Bytes n → z ≡ sizeOf (blockAt s o k n) (shownBytes s (blockAt s o k n)) → Same k n (blockAt s o k n)
 
   -- one number of four bytes: DateTime, RelayTag, FirstPacketNumber
-  four : (n : ℕ) → o + n ≤ length s → fitsIn 4 (length s - o) ≡ Take.Bytes n → (4 ≡ n) × (bigBytes 4 (bigAt 4 s o) ++ [] ≡ part s o n)
+  four : (n : ℕ) → o + n ≤ length s → takesBytes 4 (length s - o) ≡ Take.Bytes n → (4 ≡ n) × (bigBytes 4 (bigAt 4 s o) ++ [] ≡ part s o n)
   four n h e =
       let q : 4 ≡ n = given (fits {P = λ m. 4 ≡ m} 4 (length s - o) refl) e in
       (q, rw (bigAt-again 4 s o (omega arith) bytes, append-nil) (ap (part s o) q))
@@ -279,7 +279,7 @@ module _ (s : List ℕ) (bytes : Bytes s) (o z : ℕ) where
   unfolding takenAt blockAt faulty
   padding n h e q = record { is-kind = refl; is-size = omega (arith, length-part s o n h); no-fault = refl; is-bytes = refl }
 
-  other : (k : ℕ) → named k ≡ false → Goal k
+  other : (k : ℕ) → isNamed k ≡ false → Goal k
   unfolding faulty
   other k f n h e q =
       subst (Same k n) (sym (opaque-is s o k n f))
@@ -328,24 +328,24 @@ took s at k z next e = whole (leb (at + 3) (length s)) e
     whole false f = let o : _≡_ {A = ℕ} 0 1 = cc in absurd (omega arith)
 
 pub read-then-write : ReadThenWrite
-unfolding roomAfter written
+unfolding roomAfter blockBytes
 read-then-write s room at z next b bytes e q fits =
     let c = comes s at z next b e in
     let d = bounded s at (c .kind) z next (c .extent) in
     let n = next - (at + 3) in
     let t = took s at (c .kind) z next (c .extent) in
-    let size : z ≡ sizeOf (blockAt s (at + 3) (c .kind) n) (shown s (blockAt s (at + 3) (c .kind) n)) = q ∙ sym (ap (λ (x : Block). sizeOf x (shown s x)) (c .value)) in
+    let size : z ≡ sizeOf (blockAt s (at + 3) (c .kind) n) (shownBytes s (blockAt s (at + 3) (c .kind) n)) = q ∙ sym (ap (λ (x : Block). sizeOf x (shownBytes s x)) (c .value)) in
     let same = subst (Same s bytes (at + 3) z (c .kind) n) (c .value) (every s bytes (at + 3) z (c .kind) n (omega (arith, d .fields, d .inside)) t size) in
-    let y = shown s b in
+    let y = shownBytes s b in
     let zn : z ≡ next - (at + 3) = q ∙ same .is-size in
     let small : z < 65536 = subst (λ (x : ℕ). x < 65536) (d .is-size) (bigAt-lt 2 s (at + 1) (omega (arith, d .fields, d .inside)) bytes) in
-    let long : 3 + sizeOf b (shown s b) ≡ next - at = omega (arith, d .fields, same .is-size) in
-    let w : writing b (shown s b) (length room) ≡ Wrote.Length (3 + sizeOf b (shown s b)) = is-length b y room (same .no-fault) (omega arith) (omega arith) in
-    let whole : (kindOf b ∷ []) ++ bigBytes 2 (sizeOf b y) ++ fieldBytes b ++ bytesOf b y ≡ part s at (next - at) =
-    ap (λ (l : List ℕ). kindOf b ∷ l) (append-assoc (bigBytes 2 (sizeOf b y)) (fieldBytes b) (bytesOf b y))
-    ∙ ap (λ (k : ℕ). k ∷ (bigBytes 2 (sizeOf b y) ++ (fieldBytes b ++ bytesOf b y))) (same .is-kind ∙ sym (d .is-kind))
-    ∙ ap (λ (i : ℕ). getD s at 0 ∷ (bigBytes 2 i ++ (fieldBytes b ++ bytesOf b y))) (sym q ∙ sym (d .is-size))
-    ∙ ap (λ (l : List ℕ). getD s at 0 ∷ (l ++ (fieldBytes b ++ bytesOf b y))) (bigAt-again 2 s (at + 1) (omega (arith, d .fields, d .inside)) bytes)
+    let long : 3 + sizeOf b (shownBytes s b) ≡ next - at = omega (arith, d .fields, same .is-size) in
+    let w : writing b (shownBytes s b) (length room) ≡ Wrote.Length (3 + sizeOf b (shownBytes s b)) = is-length b y room (same .no-fault) (omega arith) (omega arith) in
+    let whole : (kindOf b ∷ []) ++ bigBytes 2 (sizeOf b y) ++ fieldBytes b ++ carriedBytes b y ≡ part s at (next - at) =
+    ap (λ (l : List ℕ). kindOf b ∷ l) (append-assoc (bigBytes 2 (sizeOf b y)) (fieldBytes b) (carriedBytes b y))
+    ∙ ap (λ (k : ℕ). k ∷ (bigBytes 2 (sizeOf b y) ++ (fieldBytes b ++ carriedBytes b y))) (same .is-kind ∙ sym (d .is-kind))
+    ∙ ap (λ (i : ℕ). getD s at 0 ∷ (bigBytes 2 i ++ (fieldBytes b ++ carriedBytes b y))) (sym q ∙ sym (d .is-size))
+    ∙ ap (λ (l : List ℕ). getD s at 0 ∷ (l ++ (fieldBytes b ++ carriedBytes b y))) (bigAt-again 2 s (at + 1) (omega (arith, d .fields, d .inside)) bytes)
     ∙ ap (λ (l : List ℕ). getD s at 0 ∷ (part s (at + 1) 2 ++ l)) (same .is-bytes)
     ∙ ap (λ (l : List ℕ). getD s at 0 ∷ l) (part-join s (at + 1) 2 (at + 3) n (2 + n) (omega arith) refl)
     ∙ part-first s at (at + 1) (2 + n) (next - at) 0 (omega (arith, d .fields, d .inside)) refl (omega (arith, d .fields))

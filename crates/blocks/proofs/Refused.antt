@@ -19,7 +19,7 @@ use Rattle.blocks.specs.declared.Extent.the-variants as End
 use Rattle.blocks.specs.declared.Read.the-variants as Got
 use Rattle.blocks.specs.declared.Written.{Written}
 use Rattle.blocks.specs.declared.Written.the-variants as Wrote
-use Rattle.blocks.specs.Extent.{listed, fitsIn, atLeast, routerInfo, i2np, firstFragment, followOn, pairsIn, address, takenAt, kindAt, sizeAt, ends, extentAt}
+use Rattle.blocks.specs.Extent.{listed, takesBytes, atLeast, routerInfo, i2np, firstFragment, followOn, pairsIn, address, takenAt, kindAt, sizeAt, ends, extentAt}
 use Rattle.blocks.specs.Reading.{reading, readAt}
 use Rattle.blocks.specs.Writing.{sizeOf, faulty, writing, stored, roomAfter}
 use Rattle.blocks.proofs.Ends.{refused-at}
@@ -69,7 +69,7 @@ both false x y p q = q
 fine-1 : OneOf unread 1
 fine-1 = inl refl
 
-fine-fits : (need left : ℕ) → Fine (fitsIn need left)
+fine-fits : (need left : ℕ) → Fine (takesBytes need left)
 fine-fits need left = both (leb need left) _ _ tt fine-1
 
 fine-router : (size left : ℕ) → Fine (routerInfo size left)

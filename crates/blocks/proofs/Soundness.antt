@@ -10,9 +10,9 @@ use lib.ListN.{length, getD}
 use borrow.Author.Tests.{ltb-true, leb-true, leb-false, eqb-true, eqb-false, le-ltb, le-leb, lt-leb, eq-eqb, ne-eqb}
 use Rattle.blocks.specs.declared.Taken.{Taken}
 use Rattle.blocks.specs.declared.Taken.the-variants as Take
-use Rattle.blocks.specs.Extent.{listed, fitsIn, atLeast, routerInfo, i2np, firstFragment, followOn, pairsIn, address, takenAt}
+use Rattle.blocks.specs.Extent.{listed, takesBytes, atLeast, routerInfo, i2np, firstFragment, followOn, pairsIn, address, takenAt}
 use Rattle.blocks.specs.Sound.{floorOf, ignoresSize, counted, bodyLength, tested, sound}
-use Rattle.blocks.specs.Writing.{named}
+use Rattle.blocks.specs.Writing.{isNamed}
 use Rattle.wire.proofs.Tests.{and-both, or-either}
 use Rattle.blocks.proofs.Types.{apart, by-kind}
 
@@ -67,8 +67,8 @@ ack-length z = go (eqb (z % 2) 0) refl (leb 5 z) refl
         rw d (at-least-floor 5 z (omega (arith, leb-false 5 z h)))
 
 -- a type that has no body of its own takes its size, and so does every type above 21
-other-length : (k z : ℕ) → named k ≡ false → bodyLength k z ≡ z
-unfolding bodyLength floorOf counted ignoresSize named
+other-length : (k z : ℕ) → isNamed k ≡ false → bodyLength k z ≡ z
+unfolding bodyLength floorOf counted ignoresSize isNamed
 other-length k z f = rw (apart k 0 f refl, apart k 1 f refl, apart k 6 f refl, apart k 12 f refl, apart k 15 f refl, apart k 16 f refl, apart k 17 f refl, apart k 20 f refl, apart k 21 f refl) (from-none z)
 
 pub high-length : (k z : ℕ) → 21 < k → bodyLength k z ≡ z
@@ -94,15 +94,15 @@ either : {need : ℕ} (b : Bool) {x y : Taken} → Takes need x → Takes need y
 either true p q = p
 either false p q = q
 
-fits : (need left : ℕ) → Takes need (fitsIn need left)
+fits : (need left : ℕ) → Takes need (takesBytes need left)
 fits need left = either (leb need left) takes refuses
 
 module _ (s : List ℕ) (body z : ℕ) where
   abbrev left : ℕ
   left = length s - body
 
-  other-taken : (k : ℕ) → named k ≡ false → takenAt s body k z ≡ fitsIn z left
-  unfolding takenAt named
+  other-taken : (k : ℕ) → isNamed k ≡ false → takenAt s body k z ≡ takesBytes z left
+  unfolding takenAt isNamed
   other-taken k f =
       rw (apart k 0 f refl, apart k 1 f refl, apart k 2 f refl, apart k 3 f refl, apart k 4 f refl, apart k 5 f refl, apart k 6 f refl, apart k 12 f refl, apart k 13 f refl, apart k 15 f refl, apart k 16 f refl, apart k 17 f refl, apart k 20 f refl, apart k 21 f refl)
 
@@ -110,12 +110,12 @@ module _ (s : List ℕ) (body z : ℕ) where
   unfolding address
   in-address = either (ltb left 2) refuses (six (eqb z 6) refl)
     where
-      eighteen : (b : Bool) → eqb z 18 ≡ b → Takes z (cond b (fitsIn 18 left) (Take.Refused 8))
-      eighteen true e = subst (λ (n : ℕ). Takes n (fitsIn 18 left)) (sym (eqb-true z 18 e)) (fits 18 left)
+      eighteen : (b : Bool) → eqb z 18 ≡ b → Takes z (cond b (takesBytes 18 left) (Take.Refused 8))
+      eighteen true e = subst (λ (n : ℕ). Takes n (takesBytes 18 left)) (sym (eqb-true z 18 e)) (fits 18 left)
       eighteen false e = refuses
 
-      six : (b : Bool) → eqb z 6 ≡ b → Takes z (cond b (fitsIn 6 left) (cond (eqb z 18) (fitsIn 18 left) (Take.Refused 8)))
-      six true e = subst (λ (n : ℕ). Takes n (fitsIn 6 left)) (sym (eqb-true z 6 e)) (fits 6 left)
+      six : (b : Bool) → eqb z 6 ≡ b → Takes z (cond b (takesBytes 6 left) (cond (eqb z 18) (takesBytes 18 left) (Take.Refused 8)))
+      six true e = subst (λ (n : ℕ). Takes n (takesBytes 6 left)) (sym (eqb-true z 6 e)) (fits 6 left)
       six false e = eighteen (eqb z 18) refl
 
   -- by the length that a type's body has
@@ -139,7 +139,7 @@ module _ (s : List ℕ) (body z : ℕ) where
       is : {m : ℕ} → Takes m (Take.Bytes n) → n ≡ m
       is takes = refl
 
-  whole : (n : ℕ) → n ≤ left → fitsIn n left ≡ Take.Bytes n
+  whole : (n : ℕ) → n ≤ left → takesBytes n left ≡ Take.Bytes n
   whole n h = rw (le-leb n left h)
 
   abbrev Sound : ℕ → Type 0

@@ -21,8 +21,8 @@ use Rattle.blocks.specs.declared.Read.the-variants as Got
 use Rattle.blocks.specs.declared.Written.the-variants as Wrote
 use Rattle.blocks.specs.Extent.{listed, routerInfo, i2np, firstFragment, followOn, pairsIn, address, takenAt, kindAt, sizeAt, extentAt}
 use Rattle.blocks.specs.Reading.{bytesAt, blockAt, reading, readAt}
-use Rattle.blocks.specs.Writing.{kindOf, named, fieldBytes, fieldLength, bytesOf, sizeOf, written, faulty, writing, roomAfter}
-use Rattle.blocks.specs.Claims.{Fitting, placed, WriteThenRead}
+use Rattle.blocks.specs.Writing.{kindOf, isNamed, fieldBytes, fieldLength, carriedBytes, sizeOf, blockBytes, faulty, writing, roomAfter}
+use Rattle.blocks.specs.Claims.{BlockInWidth, placed, WriteThenRead}
 use Rattle.blocks.proofs.Ends.{ended}
 use Rattle.blocks.proofs.Puts.{fields-length}
 use Rattle.blocks.proofs.Types.{apart}
@@ -84,8 +84,8 @@ module _ (body tail w : List ℕ) (z : ℕ) where
   on : (b : Block) → Starts b → (x o : ℕ) (a r : List ℕ) → fieldBytes b ++ tail ≡ a ++ (x ∷ r) → length a ≡ o → getD w (3 + o) 0 ≡ x
   on b is = byte w (kindOf b ∷ bigBytes 2 z) (fieldBytes b ++ tail) is (three (kindOf b))
 
-  value : (b : Block) → Starts b → z ≡ sizeOf b body → Fitting b → faulty b body ≡ false → blockAt w 3 (kindOf b) z ≡ placed b (length body)
-  unfolding blockAt faulty named
+  value : (b : Block) → Starts b → z ≡ sizeOf b body → BlockInWidth b → faulty b body ≡ false → blockAt w 3 (kindOf b) z ≡ placed b (length body)
+  unfolding blockAt faulty isNamed
   value (Body.DateTime t) is e h f = ap Body.DateTime (at (Body.DateTime t) is 4 t 0 [] tail h refl refl)
   value (Body.Options a b c d e f g i) is q h _ =
       let num = at (Body.Options a b c d e f g i) is in
@@ -162,7 +162,7 @@ module _ (body tail w : List ℕ) (z : ℕ) where
 
   -- where as many bytes as the size says are left, the body takes them
   takes : (b : Block) → Starts b → z ≡ sizeOf b body → faulty b body ≡ false → 3 + z ≤ length w → takenAt w 3 (kindOf b) z ≡ Take.Bytes z
-  unfolding takenAt faulty named routerInfo i2np firstFragment followOn pairsIn address
+  unfolding takenAt faulty isNamed routerInfo i2np firstFragment followOn pairsIn address
   takes (Body.DateTime t) is q f h = rw (q, le-leb 4 (length w - 3) (omega arith))
   takes (Body.Options a b c d e g i j) is q f h = rw (q, le-leb 12 (length w - 3) (omega arith))
   takes (Body.RouterInfo g i p) is q f h = let n = eqb-false (length body) 0 f in rw (lt-leb z 2 (omega arith), le-leb z (length w - 3) (omega arith))
@@ -202,25 +202,25 @@ module _ (body tail w : List ℕ) (z : ℕ) where
 
 module _ (b : Block) (body room : List ℕ) where
   abbrev tail : List ℕ
-  tail = bytesOf b body ++ drop (0 + length (written b body)) room
+  tail = carriedBytes b body ++ drop (0 + length (blockBytes b body)) room
 
   abbrev w : List ℕ
-  w = splice room 0 (written b body)
+  w = splice room 0 (blockBytes b body)
 
   starts : w ≡ (kindOf b ∷ bigBytes 2 (sizeOf b body)) ++ (fieldBytes b ++ tail)
-  unfolding written
-  starts = splice-pieces room 0 (length (written b body)) (written b body) refl ∙ simp append-assoc
+  unfolding blockBytes
+  starts = splice-pieces room 0 (length (blockBytes b body)) (blockBytes b body) refl ∙ simp append-assoc
 
-  written-length : length (written b body) ≡ 3 + sizeOf b body
-  unfolding written
+  written-length : length (blockBytes b body) ≡ 3 + sizeOf b body
+  unfolding blockBytes
   written-length = simp (length-append, length-big, fields-length) (omega arith)
 
-  module _ (h : Fitting b) (f : faulty b body ≡ false) (small : sizeOf b body ≤ 65535) (fits : 3 + sizeOf b body ≤ length room) where
+  module _ (h : BlockInWidth b) (f : faulty b body ≡ false) (small : sizeOf b body ≤ 65535) (fits : 3 + sizeOf b body ≤ length room) where
     abbrev z : ℕ
     z = sizeOf b body
 
     long : length w ≡ length room
-    long = length-splice room 0 (written b body) (omega (arith, written-length))
+    long = length-splice room 0 (blockBytes b body) (omega (arith, written-length))
 
     has-kind : kindAt w 0 ≡ kindOf b
     has-kind = ap (λ (l : List ℕ). getD l 0 0) starts
@@ -243,11 +243,11 @@ module _ (b : Block) (body room : List ℕ) where
         ∙ ap (λ (i : ℕ). Got.Block (blockAt w 3 (kindOf b) i) z (3 + z)) n
         ∙ ap (λ (v : Block). Got.Block v z (3 + z)) (value body tail w z b starts refl h f)
 
-    shows : part w (3 + fieldLength b) (length (bytesOf b body)) ≡ bytesOf b body
+    shows : part w (3 + fieldLength b) (length (carriedBytes b body)) ≡ carriedBytes b body
     shows =
         let l : length ((kindOf b ∷ bigBytes 2 z) ++ fieldBytes b) ≡ 3 + fieldLength b = simp (length-append, length-big, fields-length) (omega arith) in
-        ap (λ (v : List ℕ). part v (3 + fieldLength b) (length (bytesOf b body))) (starts ∙ sym (append-assoc (kindOf b ∷ bigBytes 2 z) (fieldBytes b) tail))
-        ∙ part-middle ((kindOf b ∷ bigBytes 2 z) ++ fieldBytes b) (bytesOf b body) (drop (0 + length (written b body)) room) (3 + fieldLength b) (length (bytesOf b body)) l refl
+        ap (λ (v : List ℕ). part v (3 + fieldLength b) (length (carriedBytes b body))) (starts ∙ sym (append-assoc (kindOf b ∷ bigBytes 2 z) (fieldBytes b) tail))
+        ∙ part-middle ((kindOf b ∷ bigBytes 2 z) ++ fieldBytes b) (carriedBytes b body) (drop (0 + length (blockBytes b body)) room) (3 + fieldLength b) (length (carriedBytes b body)) l refl
 
 pub write-then-read : WriteThenRead
 unfolding roomAfter

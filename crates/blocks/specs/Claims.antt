@@ -10,28 +10,28 @@ use Rattle.blocks.specs.declared.Block.the-variants as Body
 use Rattle.blocks.specs.declared.Read.the-variants as Got
 use Rattle.blocks.specs.declared.Written.the-variants as Wrote
 use Rattle.blocks.specs.Reading.{bytesAt, readAt, partOf}
-use Rattle.blocks.specs.Writing.{fieldLength, bytesOf, sizeOf, writing, roomAfter}
+use Rattle.blocks.specs.Writing.{fieldLength, carriedBytes, sizeOf, writing, roomAfter}
 
 -- every number of a block fits its bytes, as it does in a value of the program
-abbrev pub Fitting : Block → Type 0
-Fitting (Body.DateTime t) = t < 256 ^ 4
-Fitting (Body.Options a b c d e f g h) = (e < 256 ^ 2) × (f < 256 ^ 2) × (g < 256 ^ 2) × (h < 256 ^ 2)
-Fitting (Body.RouterInfo f g p) = Unit
-Fitting (Body.I2np k i x p) = (i < 256 ^ 4) × (x < 256 ^ 4)
-Fitting (Body.FirstFragment k i x p) = (i < 256 ^ 4) × (x < 256 ^ 4)
-Fitting (Body.FollowOnFragment n l i p) = i < 256 ^ 4
-Fitting (Body.Termination n r) = n < 256 ^ 8
-Fitting (Body.Ack t n p) = t < 256 ^ 4
-Fitting (Body.Address o p) = o < 256 ^ 2
-Fitting Body.RelayTagRequest = Unit
-Fitting (Body.RelayTag t) = t < 256 ^ 4
-Fitting (Body.NewToken x t) = (x < 256 ^ 4) × (t < 256 ^ 8)
-Fitting (Body.PathChallenge p) = Unit
-Fitting (Body.PathResponse p) = Unit
-Fitting (Body.FirstPacketNumber n) = n < 256 ^ 4
-Fitting (Body.Congestion f) = Unit
-Fitting (Body.Padding p) = Unit
-Fitting (Body.Opaque k p) = Unit
+abbrev pub BlockInWidth : Block → Type 0
+BlockInWidth (Body.DateTime t) = t < 256 ^ 4
+BlockInWidth (Body.Options a b c d e f g h) = (e < 256 ^ 2) × (f < 256 ^ 2) × (g < 256 ^ 2) × (h < 256 ^ 2)
+BlockInWidth (Body.RouterInfo f g p) = Unit
+BlockInWidth (Body.I2np k i x p) = (i < 256 ^ 4) × (x < 256 ^ 4)
+BlockInWidth (Body.FirstFragment k i x p) = (i < 256 ^ 4) × (x < 256 ^ 4)
+BlockInWidth (Body.FollowOnFragment n l i p) = i < 256 ^ 4
+BlockInWidth (Body.Termination n r) = n < 256 ^ 8
+BlockInWidth (Body.Ack t n p) = t < 256 ^ 4
+BlockInWidth (Body.Address o p) = o < 256 ^ 2
+BlockInWidth Body.RelayTagRequest = Unit
+BlockInWidth (Body.RelayTag t) = t < 256 ^ 4
+BlockInWidth (Body.NewToken x t) = (x < 256 ^ 4) × (t < 256 ^ 8)
+BlockInWidth (Body.PathChallenge p) = Unit
+BlockInWidth (Body.PathResponse p) = Unit
+BlockInWidth (Body.FirstPacketNumber n) = n < 256 ^ 4
+BlockInWidth (Body.Congestion f) = Unit
+BlockInWidth (Body.Padding p) = Unit
+BlockInWidth (Body.Opaque k p) = Unit
 
 -- a block whose n bytes stand where the writer puts them
 abbrev pub placed : Block → ℕ → Block
@@ -58,14 +58,14 @@ placed (Body.Opaque k p) n = Body.Opaque k (bytesAt 3 n)
 abbrev pub WriteThenRead : Type 0
 WriteThenRead =
     (b : Block) (body room : List ℕ) (n : ℕ)
-    → Fitting b
+    → BlockInWidth b
     → writing b body (length room) ≡ Wrote.Length n
     → (readAt (roomAfter b body room) 0 ≡ Got.Block (placed b (length body)) (sizeOf b body) n)
-    × (part (roomAfter b body room) (3 + fieldLength b) (length (bytesOf b body)) ≡ bytesOf b body)
+    × (part (roomAfter b body room) (3 + fieldLength b) (length (carriedBytes b body)) ≡ carriedBytes b body)
 
 -- the bytes of a payload that a block shows
-abbrev pub shown : List ℕ → Block → List ℕ
-shown s b = part s (partOf b .start) (partOf b .len)
+abbrev pub shownBytes : List ℕ → Block → List ℕ
+shownBytes s b = part s (partOf b .start) (partOf b .len)
 
 -- a block that was read, written with the bytes that it shows, is the same bytes again, where its size is what the writer puts
 abbrev pub ReadThenWrite : Type 0
@@ -73,7 +73,7 @@ ReadThenWrite =
     (s room : List ℕ) (at z next : ℕ) (b : Block)
     → Bytes s
     → readAt s at ≡ Got.Block b z next
-    → z ≡ sizeOf b (shown s b)
+    → z ≡ sizeOf b (shownBytes s b)
     → next - at ≤ length room
-    → (writing b (shown s b) (length room) ≡ Wrote.Length (next - at))
-    × (roomAfter b (shown s b) room ≡ splice room 0 (part s at (next - at)))
+    → (writing b (shownBytes s b) (length room) ≡ Wrote.Length (next - at))
+    × (roomAfter b (shownBytes s b) room ≡ splice room 0 (part s at (next - at)))

@@ -11,16 +11,16 @@ use Rattle.blocks.specs.declared.Extent.{Extent}
 use Rattle.blocks.specs.declared.Extent.the-variants as End
 
 -- a number between two, both included
-abbrev pub within : ℕ → ℕ → ℕ → Bool
-within lo hi x = leb lo x && leb x hi
+abbrev pub between : ℕ → ℕ → ℕ → Bool
+between lo hi x = leb lo x && leb x hi
 
 -- the types of I2NP messages: 1 to 3, 10, 11 and 18 to 26
 unfoldable pub listed : ℕ → Bool
-listed t = (within 1 3 t || within 10 11 t) || within 18 26 t
+listed t = (between 1 3 t || between 10 11 t) || between 18 26 t
 
 -- a body of so many bytes, if as many are left; else 1
-abbrev pub fitsIn : ℕ → ℕ → Taken
-fitsIn need left = cond (leb need left) (Take.Bytes need) (Take.Refused 1)
+abbrev pub takesBytes : ℕ → ℕ → Taken
+takesBytes need left = cond (leb need left) (Take.Bytes need) (Take.Refused 1)
 
 -- size, but no less than the fields: what Options and Termination take
 abbrev pub atLeast : ℕ → ℕ → ℕ
@@ -28,14 +28,14 @@ atLeast fields size = cond (leb fields size) size fields
 
 -- 2: a RouterInfo of no bytes
 unfoldable pub routerInfo : ℕ → ℕ → Taken
-routerInfo size left = cond (leb size 2) (Take.Refused 2) (fitsIn size left)
+routerInfo size left = cond (leb size 2) (Take.Refused 2) (takesBytes size left)
 
 -- 9 by the size, 1 for the fields, 3 by the message's type, 1 for the bytes
 unfoldable pub i2np : List ℕ → ℕ → ℕ → Taken
 i2np s body size =
     cond (ltb size 9) (Take.Refused 9)
     (cond (ltb (length s - body) 9) (Take.Refused 1)
-    (cond (listed (getD s body 0)) (fitsIn size (length s - body))
+    (cond (listed (getD s body 0)) (takesBytes size (length s - body))
     (Take.Refused 3)))
 
 -- 1 for the fields, 3 by the message's type, 4 for no bytes, 5 for missing ones
@@ -64,32 +64,32 @@ pairsIn size = cond (eqb ((size - 5) % 2) 0) (size - 5) 0
 unfoldable pub address : ℕ → ℕ → Taken
 address size left =
     cond (ltb left 2) (Take.Refused 1)
-    (cond (eqb size 6) (fitsIn 6 left)
-    (cond (eqb size 18) (fitsIn 18 left)
+    (cond (eqb size 6) (takesBytes 6 left)
+    (cond (eqb size 18) (takesBytes 18 left)
     (Take.Refused 8)))
 
 -- what the body at a place takes, by type; a type with no row, named or not, takes size bytes
 unfoldable pub takenAt : List ℕ → ℕ → ℕ → ℕ → Taken
 takenAt s body kind size =
-    cond (eqb kind 0) (fitsIn 4 (length s - body))
-    (cond (eqb kind 1) (fitsIn (atLeast 12 size) (length s - body))
+    cond (eqb kind 0) (takesBytes 4 (length s - body))
+    (cond (eqb kind 1) (takesBytes (atLeast 12 size) (length s - body))
     (cond (eqb kind 2) (routerInfo size (length s - body))
     (cond (eqb kind 3) (i2np s body size)
     (cond (eqb kind 4) (firstFragment s body size)
     (cond (eqb kind 5) (followOn size (length s - body))
-    (cond (eqb kind 6) (fitsIn (atLeast 9 size) (length s - body))
-    (cond (eqb kind 12) (fitsIn (5 + pairsIn size) (length s - body))
+    (cond (eqb kind 6) (takesBytes (atLeast 9 size) (length s - body))
+    (cond (eqb kind 12) (takesBytes (5 + pairsIn size) (length s - body))
     (cond (eqb kind 13) (address size (length s - body))
-    (cond (eqb kind 15) (fitsIn 0 (length s - body))
-    (cond (eqb kind 16) (fitsIn 4 (length s - body))
-    (cond (eqb kind 17) (fitsIn 12 (length s - body))
-    (cond (eqb kind 20) (fitsIn 4 (length s - body))
-    (cond (eqb kind 21) (fitsIn 1 (length s - body))
-    (fitsIn size (length s - body)))))))))))))))
+    (cond (eqb kind 15) (takesBytes 0 (length s - body))
+    (cond (eqb kind 16) (takesBytes 4 (length s - body))
+    (cond (eqb kind 17) (takesBytes 12 (length s - body))
+    (cond (eqb kind 20) (takesBytes 4 (length s - body))
+    (cond (eqb kind 21) (takesBytes 1 (length s - body))
+    (takesBytes size (length s - body)))))))))))))))
 
 -- the bytes of the fields that a body of a type begins with
-unfoldable pub fieldsOf : ℕ → ℕ
-fieldsOf kind =
+unfoldable pub fieldLengthOf : ℕ → ℕ
+fieldLengthOf kind =
     cond (eqb kind 0) 4
     (cond (eqb kind 1) 12
     (cond (eqb kind 2) 2

@@ -10,7 +10,7 @@ use Rattle.blocks.specs.declared.Block.{Block}
 use Rattle.blocks.specs.declared.Block.the-variants as Body
 use Rattle.blocks.specs.declared.Written.{Written}
 use Rattle.blocks.specs.declared.Written.the-variants as Wrote
-use Rattle.blocks.specs.Extent.{within, listed}
+use Rattle.blocks.specs.Extent.{between, listed}
 
 -- the type byte of a block
 abbrev pub kindOf : Block → ℕ
@@ -34,8 +34,8 @@ kindOf (Body.Padding p) = 254
 kindOf (Body.Opaque k p) = k
 
 -- the types that have a body of their own: 0 to 6, 12, 13, 15 to 21, 254
-unfoldable pub named : ℕ → Bool
-named k = ((leb k 6 || within 12 13 k) || within 15 21 k) || eqb k 254
+unfoldable pub isNamed : ℕ → Bool
+isNamed k = ((leb k 6 || between 12 13 k) || between 15 21 k) || eqb k 254
 
 -- the bytes of a block's fields
 abbrev pub fieldBytes : Block → List ℕ
@@ -101,16 +101,16 @@ carries (Body.Padding p) = true
 carries (Body.Opaque k p) = true
 
 -- the bytes after the fields: those lent, if the block has any
-abbrev pub bytesOf : Block → List ℕ → List ℕ
-bytesOf b body = cond (carries b) body []
+abbrev pub carriedBytes : Block → List ℕ → List ℕ
+carriedBytes b body = cond (carries b) body []
 
 -- the size that the writer puts
 abbrev pub sizeOf : Block → List ℕ → ℕ
-sizeOf b body = fieldLength b + length (bytesOf b body)
+sizeOf b body = fieldLength b + length (carriedBytes b body)
 
 -- a block's bytes: type, size, fields, bytes
-unfoldable pub written : Block → List ℕ → List ℕ
-written b body = (kindOf b ∷ []) ++ bigBytes 2 (sizeOf b body) ++ fieldBytes b ++ bytesOf b body
+unfoldable pub blockBytes : Block → List ℕ → List ℕ
+blockBytes b body = (kindOf b ∷ []) ++ bigBytes 2 (sizeOf b body) ++ fieldBytes b ++ carriedBytes b body
 
 -- what 32 is given for
 unfoldable pub faulty : Block → List ℕ → Bool
@@ -131,7 +131,7 @@ faulty (Body.PathResponse p) body = false
 faulty (Body.FirstPacketNumber n) body = false
 faulty (Body.Congestion f) body = false
 faulty (Body.Padding p) body = false
-faulty (Body.Opaque k p) body = named k
+faulty (Body.Opaque k p) body = isNamed k
 
 -- 32, then 31, then 30; else the block's length
 unfoldable pub writing : Block → List ℕ → ℕ → Written
@@ -143,7 +143,7 @@ writing b body room =
 
 -- the room afterwards: the block stands at its start, or nothing changed
 abbrev pub stored : Written → Block → List ℕ → List ℕ → List ℕ
-stored (Wrote.Length n) b body room = splice room 0 (written b body)
+stored (Wrote.Length n) b body room = splice room 0 (blockBytes b body)
 stored (Wrote.Refused m) b body room = room
 
 -- what a room holds after a block was written to it, or refused

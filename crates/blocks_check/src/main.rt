@@ -81,9 +81,9 @@ fn shown(payload: &[u8], start: usize, len: usize) -> &[u8] {
 
 // Writes a block again and says which place of the tally that belongs to.
 fn again(payload: &[u8], place: usize, block: Block, next: usize, room: &mut [u8]) -> usize {
-    let part = reader::part_of(block);
+    let part = blocks_reader::part_of(block);
     let body = shown(payload, part.start, part.len);
-    let Written::Length { count } = writer::write_block(block, body, room) else {
+    let Written::Length { count } = blocks_writer::write_block(block, body, room) else {
         return DIFFERS;
     };
     if next < place {
@@ -104,7 +104,7 @@ fn type_at(payload: &[u8], place: usize) -> usize {
 
 // Counts the block at a place, and gives the place after it.
 fn block(payload: &[u8], place: usize, room: &mut [u8], tally: &mut [u64]) -> usize {
-    let Read::Block { block, size, next } = reader::read_block(payload, place) else {
+    let Read::Block { block, size, next } = blocks_reader::read_block(payload, place) else {
         return payload.len();
     };
     let kind = type_at(payload, place);
@@ -132,7 +132,7 @@ fn refused(number: u32, place: usize, tally: &mut [u64]) {
 fn payload(bytes: &[u8], capacity: usize, tally: &mut [u64]) {
     let mut room = [0u8; 2048];
     add(tally, OTHERS, PAYLOADS, 1);
-    let answer = listing::count_blocks(bytes, capacity);
+    let answer = blocks_listing::count_blocks(bytes, capacity);
     if answer.number == 0 {
         blocks_of(bytes, answer.count, &mut room, tally);
     } else {

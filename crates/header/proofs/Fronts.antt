@@ -11,7 +11,7 @@ use Rattle.keystream.specs.Chacha.{block}
 use Rattle.keystream.specs.Mask.{masked}
 use Rattle.keystream.proofs.Masks.{length-masked, masked-other, masked-twice, masked-none, masked-drop, masked-front, masked-swap}
 use Rattle.header.specs.Kinds.{longOf}
-use Rattle.header.specs.Unmasking.{stream, nonce1, nonce2, front, rest, typeOf}
+use Rattle.header.specs.Unmasking.{stream, nonce1, nonce2, front, rest, packetKind}
 
 module _ (k1 k2 p : List ℕ) (h : 40 ≤ length p) where
   s1 : List ℕ
@@ -72,7 +72,7 @@ module _ (k1 k2 p : List ℕ) (h : 40 ≤ length p) where
   pub front-kept : (x : List ℕ) → x ≡ part (front k1 k2 p) 0 16 → splice p 0 x ≡ front k1 k2 p
   front-kept x e = ap (splice p 0) e ∙ front-stored
 
-  pub front-type : (x : List ℕ) → x ≡ part (front k1 k2 p) 0 16 → getD x 12 0 ≡ typeOf (front k1 k2 p)
+  pub front-type : (x : List ℕ) → x ≡ part (front k1 k2 p) 0 16 → getD x 12 0 ≡ packetKind (front k1 k2 p)
   front-type x e = ap (λ (z : List ℕ). getD z 12 0) e ∙ getD-part (front k1 k2 p) 0 16 12 0 (omega arith)
 
   -- the nonces lie past it

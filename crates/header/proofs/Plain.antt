@@ -11,7 +11,7 @@ use Rattle.wire.proofs.Parts.{puts}
 use Rattle.wire.proofs.Numbers.{length-little, length-big}
 use Rattle.header.specs.declared.Fields.{Fields}
 use Rattle.header.specs.Kinds.{isShort}
-use Rattle.header.specs.Writing.{byte13, byte14, frontBytes, idBytes, headBytes, plain}
+use Rattle.header.specs.Writing.{byte13, byte14, frontBytes, idBytes, headerBytes, plain}
 
 pub length-frontBytes : (f : Fields) → length (frontBytes f) ≡ 16
 unfolding frontBytes
@@ -41,11 +41,11 @@ ids-put f p h e1 e2 =
     puts p 16 8 8 24 (littleBytes 8 (f .source)) (littleBytes 8 (f .token)) (length-little 8 (f .source)) (length-little 8 (f .token)) refl (omega arith) e1 e2 .0
 
 pub plain-short : (f : Fields) (p : List ℕ) {m : List ℕ} → isShort (f .kind) ≡ true → m ≡ splice p 0 (frontBytes f) → m ≡ plain f p
-unfolding plain headBytes
+unfolding plain headerBytes
 plain-short f p e em = rw e em
 
 pub plain-long : (f : Fields) (p : List ℕ) {m1 m2 : List ℕ} → isShort (f .kind) ≡ false → 32 ≤ length p
     → m1 ≡ splice p 0 (frontBytes f) → m2 ≡ splice m1 16 (idBytes f) → m2 ≡ plain f p
-unfolding plain headBytes
+unfolding plain headerBytes
 plain-long f p e h e1 e2 =
     rw e (puts p 0 16 16 16 (frontBytes f) (idBytes f) (length-frontBytes f) (length-idBytes f) refl (omega arith) e1 e2 .0)

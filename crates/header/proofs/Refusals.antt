@@ -13,13 +13,13 @@ use Rattle.wire.proofs.Parts.{getD-part}
 use Rattle.wire.proofs.Numbers.{bigAt-part}
 use Rattle.header.specs.declared.Fields.{Fields}
 use Rattle.header.specs.Kinds.{isKeyed, isShort, isListed, isVersion, longOf, needOf}
-use Rattle.header.specs.Unmasking.{typeOf}
-use Rattle.header.specs.Reading.{refusalOf}
+use Rattle.header.specs.Unmasking.{packetKind}
+use Rattle.header.specs.Reading.{frontRefusal}
 use Rattle.header.specs.Writing.{writeNumber}
 
 -- a type that is not listed is 21, whatever stands for its version
-pub type-first : (q : List ℕ) (n : ℕ) → isListed (typeOf q) ≡ false → refusalOf q n ≡ 21
-unfolding refusalOf
+pub type-first : (q : List ℕ) (n : ℕ) → isListed (packetKind q) ≡ false → frontRefusal q n ≡ 21
+unfolding frontRefusal
 type-first q n e = rw e
 
 -- a nibble above 15 is 25, however short the packet
@@ -28,36 +28,36 @@ unfolding writeNumber isListed
 nibbles-first f n t z e = rw (t, z, e)
 
 -- the first 16 bytes are enough to judge by
-pub refusal-front : (q : List ℕ) (n : ℕ) → refusalOf (part q 0 16) n ≡ refusalOf q n
-unfolding refusalOf
+pub refusal-front : (q : List ℕ) (n : ℕ) → frontRefusal (part q 0 16) n ≡ frontRefusal q n
+unfolding frontRefusal
 refusal-front q n =
     rw (getD-part q 0 16 12 0 (omega arith), getD-part q 0 16 13 0 (omega arith), bigAt-part 4 q 0 16 8 (omega arith))
 
 -- what each test of reading gave, where there is no refusal
 pub record Taken (q : List ℕ) (n : ℕ) : Type 0 where
-  pub listed : isListed (typeOf q) ≡ true
-  pub versed : (not (isShort (typeOf q)) && not (isVersion (getD q 13 0))) ≡ false
-  pub keyed : (isKeyed (typeOf q) && ltb n 64) ≡ false
-  pub numbered : (eqb (typeOf q) 2 && not (eqb (bigAt 4 q 8) 0)) ≡ false
+  pub listed : isListed (packetKind q) ≡ true
+  pub versed : (not (isShort (packetKind q)) && not (isVersion (getD q 13 0))) ≡ false
+  pub keyed : (isKeyed (packetKind q) && ltb n 64) ≡ false
+  pub numbered : (eqb (packetKind q) 2 && not (eqb (bigAt 4 q 8) 0)) ≡ false
 
-pub read-taken : (q : List ℕ) (n : ℕ) → refusalOf q n ≡ 0 → Taken q n
-unfolding refusalOf
+pub read-taken : (q : List ℕ) (n : ℕ) → frontRefusal q n ≡ 0 → Taken q n
+unfolding frontRefusal
 read-taken q n e =
-    go (not (isListed (typeOf q))) (not (isShort (typeOf q)) && not (isVersion (getD q 13 0))) (isKeyed (typeOf q) && ltb n 64)
-    (eqb (typeOf q) 2 && not (eqb (bigAt 4 q 8) 0)) refl refl refl refl e
+    go (not (isListed (packetKind q))) (not (isShort (packetKind q)) && not (isVersion (getD q 13 0))) (isKeyed (packetKind q) && ltb n 64)
+    (eqb (packetKind q) 2 && not (eqb (bigAt 4 q 8) 0)) refl refl refl refl e
   where
-    go : (a b d g : Bool) → not (isListed (typeOf q)) ≡ a → (not (isShort (typeOf q)) && not (isVersion (getD q 13 0))) ≡ b → (isKeyed (typeOf q) && ltb n 64) ≡ d
-        → (eqb (typeOf q) 2 && not (eqb (bigAt 4 q 8) 0)) ≡ g → _≡_ {A = ℕ} (cond a 21 (cond b 22 (cond d 23 (cond g 24 0)))) 0 → Taken q n
+    go : (a b d g : Bool) → not (isListed (packetKind q)) ≡ a → (not (isShort (packetKind q)) && not (isVersion (getD q 13 0))) ≡ b → (isKeyed (packetKind q) && ltb n 64) ≡ d
+        → (eqb (packetKind q) 2 && not (eqb (bigAt 4 q 8) 0)) ≡ g → _≡_ {A = ℕ} (cond a 21 (cond b 22 (cond d 23 (cond g 24 0)))) 0 → Taken q n
     go true b d g ea eb ed eg z = absurd (omega arith)
     go false true d g ea eb ed eg z = absurd (omega arith)
     go false false true g ea eb ed eg z = absurd (omega arith)
     go false false false true ea eb ed eg z = absurd (omega arith)
-    go false false false false ea eb ed eg z = record { listed = not-false (isListed (typeOf q)) ea; versed = eb; keyed = ed; numbered = eg }
+    go false false false false ea eb ed eg z = record { listed = not-false (isListed (packetKind q)) ea; versed = eb; keyed = ed; numbered = eg }
 
 -- not refused, a packet has room for what is to be unmasked
-pub read-room : (q : List ℕ) (n : ℕ) → 40 ≤ n → refusalOf q n ≡ 0 → 16 + longOf (typeOf q) ≤ n
+pub read-room : (q : List ℕ) (n : ℕ) → 40 ≤ n → frontRefusal q n ≡ 0 → 16 + longOf (packetKind q) ≤ n
 unfolding longOf
-read-room q n h e = by (isKeyed (typeOf q)) (isShort (typeOf q)) (read-taken q n e .keyed)
+read-room q n h e = by (isKeyed (packetKind q)) (isShort (packetKind q)) (read-taken q n e .keyed)
   where
     by : (k s : Bool) → (k && ltb n 64) ≡ false → 16 + cond k 48 (cond s 0 16) ≤ n
     by true s f = omega (arith, ltb-false n 64 f)

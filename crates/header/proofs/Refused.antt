@@ -13,32 +13,32 @@ use Rattle.wire.specs.Numbers.{bigAt}
 use Rattle.header.specs.declared.Fields.{Fields}
 use Rattle.header.specs.declared.Answer.the-variants.{Header, Refused}
 use Rattle.header.specs.Kinds.{isKeyed, isShort, isListed, isVersion, needOf}
-use Rattle.header.specs.Unmasking.{front, typeOf, unmasked}
-use Rattle.header.specs.Reading.{refusalOf, readNumber, kindOf, answerOf, leftBy}
+use Rattle.header.specs.Unmasking.{front, packetKind, unmasked}
+use Rattle.header.specs.Reading.{frontRefusal, readNumber, headerAt, headerAnswer, packetAfterRead}
 use Rattle.header.specs.Writing.{writeNumber}
 
 module _ (k1 k2 p : List ℕ) where
   -- a refused packet has a number, and it is not 0
-  read-number : (n : ℕ) → answerOf k1 k2 p ≡ Refused n → (readNumber k1 k2 p ≡ n) × (eqb (readNumber k1 k2 p) 0 ≡ false)
-  unfolding answerOf
+  read-number : (n : ℕ) → headerAnswer k1 k2 p ≡ Refused n → (readNumber k1 k2 p ≡ n) × (eqb (readNumber k1 k2 p) 0 ≡ false)
+  unfolding headerAnswer
   read-number n e = go (eqb (readNumber k1 k2 p) 0) refl e
     where
-      go : (b : Bool) → eqb (readNumber k1 k2 p) 0 ≡ b → cond b (Header (kindOf (unmasked k1 k2 p))) (Refused (readNumber k1 k2 p)) ≡ Refused n
+      go : (b : Bool) → eqb (readNumber k1 k2 p) 0 ≡ b → cond b (Header (headerAt (unmasked k1 k2 p))) (Refused (readNumber k1 k2 p)) ≡ Refused n
           → (readNumber k1 k2 p ≡ n) × (eqb (readNumber k1 k2 p) 0 ≡ false)
       go true q z = let w : _≡_ {A = ℕ} 0 1 = cc in absurd (omega arith)
       go false q z = (cc, q)
 
-  pub read-leaves : (n : ℕ) → answerOf k1 k2 p ≡ Refused n → leftBy k1 k2 p ≡ p
-  unfolding leftBy
+  pub read-leaves : (n : ℕ) → headerAnswer k1 k2 p ≡ Refused n → packetAfterRead k1 k2 p ≡ p
+  unfolding packetAfterRead
   read-leaves n e = rw (read-number n e .1)
 
   -- its number is 20 to 24
   some-read : (readNumber k1 k2 p ≡ 0 → ⊥) → OneOf (20 ∷ 21 ∷ 22 ∷ 23 ∷ 24 ∷ []) (readNumber k1 k2 p)
-  unfolding readNumber refusalOf
+  unfolding readNumber frontRefusal
   some-read =
       let q : List ℕ = front k1 k2 p in
-      go (ltb (length p) 40) (not (isListed (typeOf q))) (not (isShort (typeOf q)) && not (isVersion (getD q 13 0))) (isKeyed (typeOf q) && ltb (length p) 64)
-      (eqb (typeOf q) 2 && not (eqb (bigAt 4 q 8) 0))
+      go (ltb (length p) 40) (not (isListed (packetKind q))) (not (isShort (packetKind q)) && not (isVersion (getD q 13 0))) (isKeyed (packetKind q) && ltb (length p) 64)
+      (eqb (packetKind q) 2 && not (eqb (bigAt 4 q 8) 0))
     where
       go : (s a b c d : Bool) → (_≡_ {A = ℕ} (cond s 20 (cond a 21 (cond b 22 (cond c 23 (cond d 24 0))))) 0 → ⊥)
           → OneOf (20 ∷ 21 ∷ 22 ∷ 23 ∷ 24 ∷ []) (cond s 20 (cond a 21 (cond b 22 (cond c 23 (cond d 24 0)))))
@@ -49,7 +49,7 @@ module _ (k1 k2 p : List ℕ) where
       go false false false false true ne = inr (inr (inr (inr refl)))
       go false false false false false ne = absurd (ne refl)
 
-  pub read-numbers : (n : ℕ) → answerOf k1 k2 p ≡ Refused n → OneOf (20 ∷ 21 ∷ 22 ∷ 23 ∷ 24 ∷ []) n
+  pub read-numbers : (n : ℕ) → headerAnswer k1 k2 p ≡ Refused n → OneOf (20 ∷ 21 ∷ 22 ∷ 23 ∷ 24 ∷ []) n
   read-numbers n e =
       subst (OneOf (20 ∷ 21 ∷ 22 ∷ 23 ∷ 24 ∷ [])) (read-number n e .0) (some-read (eqb-false (readNumber k1 k2 p) 0 (read-number n e .1)))
 

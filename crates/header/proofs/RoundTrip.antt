@@ -21,10 +21,10 @@ use Rattle.header.specs.declared.Fields.{Fields}
 use Rattle.header.specs.declared.HeaderKind.the-variants.{SessionConfirmed, Data}
 use Rattle.header.specs.declared.Answer.the-variants.{Header}
 use Rattle.header.specs.Kinds.{isKeyed, isShort, isListed, isVersion, longOf, needOf}
-use Rattle.header.specs.Unmasking.{stream, nonce1, nonce2, front, rest, typeOf, unmasked}
-use Rattle.header.specs.Reading.{refusalOf, readNumber, longAt, longKind, kindOf, answerOf, leftBy}
-use Rattle.header.specs.Writing.{writeNumber, byte13, byte14, frontBytes, idBytes, headBytes, plain, written}
-use Rattle.header.specs.RoundTrip.{Fits, own, shown, ofLong, fieldsOf, NoOthers, WrittenIsRead, ReadIsWritten}
+use Rattle.header.specs.Unmasking.{stream, nonce1, nonce2, front, rest, packetKind, unmasked}
+use Rattle.header.specs.Reading.{frontRefusal, readNumber, longAt, longHeader, headerAt, headerAnswer, packetAfterRead}
+use Rattle.header.specs.Writing.{writeNumber, byte13, byte14, frontBytes, idBytes, headerBytes, plain, writtenPacket}
+use Rattle.header.specs.RoundTrip.{LongInWidth, own, headerOf, ofLong, headerFields, NoOthers, WrittenIsRead, ReadIsWritten}
 use Rattle.header.proofs.Fronts.{length-front, front-twice, length-rest, rest-twice, part-rest}
 use Rattle.header.proofs.Refusals.{refusal-front, Taken, read-taken, read-room, Given, write-given, need-enough, need-keyed}
 use Rattle.header.proofs.Plain.{length-frontBytes, length-idBytes}
@@ -32,16 +32,16 @@ use Rattle.header.proofs.Plain.{length-frontBytes, length-idBytes}
 -- ---- a plain header, read
 
 -- the header's bytes begin with the first 16
-head-front : (f : Fields) (o n : ℕ) → o + n ≤ 16 → part (headBytes f) o n ≡ part (frontBytes f) o n
-unfolding headBytes
+head-front : (f : Fields) (o n : ℕ) → o + n ≤ 16 → part (headerBytes f) o n ≡ part (frontBytes f) o n
+unfolding headerBytes
 head-front f o n h = by (isShort (f .kind))
   where
     by : (s : Bool) → part (cond s (frontBytes f) (frontBytes f ++ idBytes f)) o n ≡ part (frontBytes f) o n
     by true = refl
     by false = part-left (frontBytes f) (idBytes f) o n (omega (arith, length-frontBytes f))
 
-length-head : (f : Fields) → (16 ≤ length (headBytes f)) × (length (headBytes f) ≤ 32)
-unfolding headBytes
+length-head : (f : Fields) → (16 ≤ length (headerBytes f)) × (length (headerBytes f) ≤ 32)
+unfolding headerBytes
 length-head f = by (isShort (f .kind))
   where
     by : (s : Bool) → (16 ≤ length (cond s (frontBytes f) (frontBytes f ++ idBytes f))) × (length (cond s (frontBytes f) (frontBytes f ++ idBytes f)) ≤ 32)
@@ -50,8 +50,8 @@ length-head f = by (isShort (f .kind))
         let e : length (frontBytes f ++ idBytes f) ≡ 32 = length-append (frontBytes f) (idBytes f) ∙ omega (arith, length-frontBytes f, length-idBytes f) in
         (omega arith, omega arith)
 
-head-long : (f : Fields) → isShort (f .kind) ≡ false → headBytes f ≡ frontBytes f ++ idBytes f
-unfolding headBytes
+head-long : (f : Fields) → isShort (f .kind) ≡ false → headerBytes f ≡ frontBytes f ++ idBytes f
+unfolding headerBytes
 head-long f e = rw e
 
 -- the fields' bytes in them
@@ -95,20 +95,20 @@ module _ (f : Fields) where
       ∙ part-middle (littleBytes 8 (f .source)) (littleBytes 8 (f .token)) [] 8 8 (length-little 8 (f .source)) (length-little 8 (f .token))
 
 module _ (f : Fields) (p : List ℕ) (h : 32 ≤ length p) where
-  fits : 0 + length (headBytes f) ≤ length p
+  fits : 0 + length (headerBytes f) ≤ length p
   fits = omega (arith, length-head f)
 
   length-plain : length (plain f p) ≡ length p
   unfolding plain
-  length-plain = length-splice p 0 (headBytes f) fits
+  length-plain = length-splice p 0 (headerBytes f) fits
 
   -- a part of the first 16 bytes
   part-plain : (o n : ℕ) → o + n ≤ 16 → part (plain f p) o n ≡ part (frontBytes f) o n
   unfolding plain
   part-plain o n g =
       let z : o ≡ 0 + o = omega arith in
-      ap (λ (k : ℕ). part (splice p 0 (headBytes f)) k n) z
-      ∙ part-within p 0 (headBytes f) fits o n (omega (arith, length-head f))
+      ap (λ (k : ℕ). part (splice p 0 (headerBytes f)) k n) z
+      ∙ part-within p 0 (headerBytes f) fits o n (omega (arith, length-head f))
       ∙ head-front f o n g
 
   byte-plain : (i : ℕ) → i < 16 → getD (plain f p) i 0 ≡ getD (frontBytes f) i 0
@@ -120,7 +120,7 @@ module _ (f : Fields) (p : List ℕ) (h : 32 ≤ length p) where
       ∙ getD-part (frontBytes f) 0 16 i 0 g
       ∙ ap (λ (k : ℕ). getD (frontBytes f) k 0) (sym z)
 
-  type-plain : typeOf (plain f p) ≡ f .kind
+  type-plain : packetKind (plain f p) ≡ f .kind
   type-plain = byte-plain 12 (omega arith) ∙ last-4 f 0
 
   plain-13 : getD (plain f p) 13 0 ≡ byte13 f
@@ -141,9 +141,9 @@ module _ (f : Fields) (p : List ℕ) (h : 32 ≤ length p) where
   part-ids e o n g =
       let z : 16 + o ≡ 0 + (16 + o) = omega arith in
       let y : 16 + o ≡ length (frontBytes f) + o = omega (arith, length-frontBytes f) in
-      let long : length (headBytes f) ≡ 32 = ap length (head-long f e) ∙ length-append (frontBytes f) (idBytes f) ∙ omega (arith, length-frontBytes f, length-idBytes f) in
-      ap (λ (k : ℕ). part (splice p 0 (headBytes f)) k n) z
-      ∙ part-within p 0 (headBytes f) fits (16 + o) n (omega arith)
+      let long : length (headerBytes f) ≡ 32 = ap length (head-long f e) ∙ length-append (frontBytes f) (idBytes f) ∙ omega (arith, length-frontBytes f, length-idBytes f) in
+      ap (λ (k : ℕ). part (splice p 0 (headerBytes f)) k n) z
+      ∙ part-within p 0 (headerBytes f) fits (16 + o) n (omega arith)
       ∙ ap₂ (λ (l : List ℕ) (k : ℕ). part l k n) (head-long f e) y
       ∙ part-right (frontBytes f) (idBytes f) o n
 
@@ -181,8 +181,8 @@ unfolding byte14
 byte14-long f e g = rw (e, g)
 
 -- the plain header gives the fields
-kind-plain : (f : Fields) (p : List ℕ) (n : ℕ) → 32 ≤ length p → Fits f → Given f n → kindOf (plain f p) ≡ shown f
-unfolding kindOf shown longAt
+kind-plain : (f : Fields) (p : List ℕ) (n : ℕ) → 32 ≤ length p → LongInWidth f → Given f n → headerAt (plain f p) ≡ headerOf f
+unfolding headerAt headerOf longAt
 kind-plain f p n h w g =
     rw (type-plain f p h, plain-destination f p h (w .destination), plain-number f p h (w .number), plain-13 f p h, plain-14 f p h)
     (by (eqb (f .kind) 2) (eqb (f .kind) 6) refl refl)
@@ -190,10 +190,10 @@ kind-plain f p n h w g =
     by : (a b : Bool) → eqb (f .kind) 2 ≡ a → eqb (f .kind) 6 ≡ b
         → cond a (SessionConfirmed (f .destination) (f .number) (byte13 f / 16) (byte13 f % 16))
         (cond b (Data (f .destination) (f .number) (eqb (byte13 f % 2) 1))
-        (longKind (f .kind) (record { destination = f .destination; number = f .number; version = byte13 f; network = byte14 f; source = littleAt 8 (plain f p) 16; token = littleAt 8 (plain f p) 24 })))
+        (longHeader (f .kind) (record { destination = f .destination; number = f .number; version = byte13 f; network = byte14 f; source = littleAt 8 (plain f p) 16; token = littleAt 8 (plain f p) 24 })))
         ≡ cond a (SessionConfirmed (f .destination) (f .number) (f .fragment) (f .count))
         (cond b (Data (f .destination) (f .number) (f .immediate))
-        (longKind (f .kind) (record { destination = f .destination; number = f .number; version = f .version; network = f .network; source = f .source; token = f .token })))
+        (longHeader (f .kind) (record { destination = f .destination; number = f .number; version = f .version; network = f .network; source = f .source; token = f .token })))
     by true b ea eb =
         let nib : (ltb 15 (f .fragment) || ltb 15 (f .count)) ≡ false = rw ea at (g .nibbles) in
         let v = byte13-confirmed f ea nib in
@@ -206,21 +206,21 @@ kind-plain f p n h w g =
 -- ---- reading what was written
 
 -- what is masked from 16 on is no part of the first 16 bytes
-front-rest : (k2 : List ℕ) (t : ℕ) (q : List ℕ) → 16 + longOf t ≤ length q → (n : ℕ) → refusalOf (rest k2 t q) n ≡ refusalOf q n
+front-rest : (k2 : List ℕ) (t : ℕ) (q : List ℕ) → 16 + longOf t ≤ length q → (n : ℕ) → frontRefusal (rest k2 t q) n ≡ frontRefusal q n
 front-rest k2 t q h n =
     sym (refusal-front (rest k2 t q) n)
-    ∙ ap (λ (z : List ℕ). refusalOf z n) (part-rest k2 t q 0 16 h (omega arith))
+    ∙ ap (λ (z : List ℕ). frontRefusal z n) (part-rest k2 t q 0 16 h (omega arith))
     ∙ refusal-front q n
 
-type-rest : (k2 : List ℕ) (t : ℕ) (q : List ℕ) → 16 + longOf t ≤ length q → typeOf (rest k2 t q) ≡ typeOf q
+type-rest : (k2 : List ℕ) (t : ℕ) (q : List ℕ) → 16 + longOf t ≤ length q → packetKind (rest k2 t q) ≡ packetKind q
 type-rest k2 t q h =
     sym (getD-part (rest k2 t q) 0 16 12 0 (omega arith))
     ∙ ap (λ (z : List ℕ). getD z 12 0) (part-rest k2 t q 0 16 h (omega arith))
     ∙ getD-part q 0 16 12 0 (omega arith)
 
 -- fields that are not refused make a header that is not refused
-refusal-plain : (f : Fields) (p : List ℕ) → 32 ≤ length p → Fits f → Given f (length p) → refusalOf (plain f p) (length p) ≡ 0
-unfolding refusalOf
+refusal-plain : (f : Fields) (p : List ℕ) → 32 ≤ length p → LongInWidth f → Given f (length p) → frontRefusal (plain f p) (length p) ≡ 0
+unfolding frontRefusal
 refusal-plain f p h w g =
     rw (type-plain f p h, plain-13 f p h, plain-number f p h (w .number), g .listed, version-13, keyed-long (isKeyed (f .kind)) refl, g .numbered)
   where
@@ -240,7 +240,7 @@ refusal-plain f p h w g =
     keyed-long false e = refl
 
 pub written-is-read : WrittenIsRead
-unfolding written readNumber answerOf leftBy unmasked
+unfolding writtenPacket readNumber headerAnswer packetAfterRead unmasked
 written-is-read k1 k2 f p w e =
     let g = write-given f (length p) e in
     let need = need-enough (f .kind) in
@@ -254,32 +254,32 @@ written-is-read k1 k2 f p w e =
     let y = front k1 k2 x in
     let ly : length y ≡ length p = length-front k1 k2 x hx ∙ lx in
     let back : front k1 k2 y ≡ x = front-twice k1 k2 x hx in
-    let type : typeOf x ≡ f .kind = type-rest k2 (f .kind) q hq ∙ type-plain f p h32 in
-    let none : refusalOf x (length p) ≡ 0 = front-rest k2 (f .kind) q hq (length p) ∙ refusal-plain f p h32 w g in
+    let type : packetKind x ≡ f .kind = type-rest k2 (f .kind) q hq ∙ type-plain f p h32 in
+    let none : frontRefusal x (length p) ≡ 0 = front-rest k2 (f .kind) q hq (length p) ∙ refusal-plain f p h32 w g in
     let number : readNumber k1 k2 y ≡ 0 = rw (le-ltb (length y) 40 (omega arith), back, ly) none in
-    let whole : rest k2 (typeOf (front k1 k2 y)) (front k1 k2 y) ≡ q = rw (back, type) (rest-twice k2 (f .kind) q hq) in
-    (rw number (ap Header (ap kindOf whole ∙ kind-plain f p (length p) h32 w g)), rw number whole)
+    let whole : rest k2 (packetKind (front k1 k2 y)) (front k1 k2 y) ≡ q = rw (back, type) (rest-twice k2 (f .kind) q hq) in
+    (rw number (ap Header (ap headerAt whole ∙ kind-plain f p (length p) h32 w g)), rw number whole)
 
 -- ---- writing what was read
 
 -- the fields that reading gave are those of the unmasked header
 record Same (f : Fields) (u : List ℕ) : Type 0 where
-  kind : f .kind ≡ typeOf u
+  kind : f .kind ≡ packetKind u
   destination : f .destination ≡ littleAt 8 u 0
   number : f .number ≡ bigAt 4 u 8
   thirteen : byte13 f ≡ getD u 13 0
   fourteen : byte14 f ≡ getD u 14 0
-  version : isShort (typeOf u) ≡ false → f .version ≡ getD u 13 0
-  source : isShort (typeOf u) ≡ false → f .source ≡ littleAt 8 u 16
-  token : isShort (typeOf u) ≡ false → f .token ≡ littleAt 8 u 24
+  version : isShort (packetKind u) ≡ false → f .version ≡ getD u 13 0
+  source : isShort (packetKind u) ≡ false → f .source ≡ littleAt 8 u 16
+  token : isShort (packetKind u) ≡ false → f .token ≡ littleAt 8 u 24
   nibbles : (eqb (f .kind) 2 && (ltb 15 (f .fragment) || ltb 15 (f .count))) ≡ false
 
 -- a listed type that is not a short one keeps its number
-pub long-fields : (t : ℕ) (l : Long) → isListed t ≡ true → eqb t 2 ≡ false → eqb t 6 ≡ false → fieldsOf (longKind t l) ≡ ofLong t l
-unfolding isListed longKind
+pub long-fields : (t : ℕ) (l : Long) → isListed t ≡ true → eqb t 2 ≡ false → eqb t 6 ≡ false → headerFields (longHeader t l) ≡ ofLong t l
+unfolding isListed longHeader
 long-fields t l e e2 e6 = go (eqb t 0) (eqb t 1) (eqb t 7) (eqb t 9) (eqb t 10) refl refl refl refl refl
   where
-    go : (a b c d g : Bool) → eqb t 0 ≡ a → eqb t 1 ≡ b → eqb t 7 ≡ c → eqb t 9 ≡ d → eqb t 10 ≡ g → fieldsOf (longKind t l) ≡ ofLong t l
+    go : (a b c d g : Bool) → eqb t 0 ≡ a → eqb t 1 ≡ b → eqb t 7 ≡ c → eqb t 9 ≡ d → eqb t 10 ≡ g → headerFields (longHeader t l) ≡ ofLong t l
     go true b c d g ea eb ec ed eg = rw (eqb-true t 0 ea)
     go false true c d g ea eb ec ed eg = rw (eqb-true t 1 eb)
     go false false true d g ea eb ec ed eg = rw (eqb-true t 7 ec)
@@ -290,11 +290,11 @@ long-fields t l e e2 e6 = go (eqb t 0) (eqb t 1) (eqb t 7) (eqb t 9) (eqb t 10) 
         rw (eqb-true t 11 last)
 
 -- what fields stand for has the fields of its type
-pub fields-shown : (f : Fields) → isListed (f .kind) ≡ true → fieldsOf (shown f) ≡ own f
-unfolding shown own
+pub fields-shown : (f : Fields) → isListed (f .kind) ≡ true → headerFields (headerOf f) ≡ own f
+unfolding headerOf own
 fields-shown f listed = go (eqb (f .kind) 2) (eqb (f .kind) 6) refl refl
   where
-    go : (a b : Bool) → eqb (f .kind) 2 ≡ a → eqb (f .kind) 6 ≡ b → fieldsOf (shown f) ≡ own f
+    go : (a b : Bool) → eqb (f .kind) 2 ≡ a → eqb (f .kind) 6 ≡ b → headerFields (headerOf f) ≡ own f
     go true b ea eb = rw (eqb-true (f .kind) 2 ea)
     go false true ea eb = rw (eqb-true (f .kind) 6 eb)
     go false false ea eb = rw (ea, eb) (long-fields (f .kind) _ listed ea eb)
@@ -315,13 +315,13 @@ bit (suc zero) h = refl
 bit (suc (suc b)) h = absurd (omega arith)
 
 module _ (u : List ℕ) (bytes : Bytes u) (others : NoOthers u) where
-  same-confirmed : eqb (typeOf u) 2 ≡ true → Same (fieldsOf (SessionConfirmed (littleAt 8 u 0) (bigAt 4 u 8) (getD u 13 0 / 16) (getD u 13 0 % 16))) u
+  same-confirmed : eqb (packetKind u) 2 ≡ true → Same (headerFields (SessionConfirmed (littleAt 8 u 0) (bigAt 4 u 8) (getD u 13 0 / 16) (getD u 13 0 % 16))) u
   unfolding byte13 byte14
   same-confirmed e =
-      let s = short-2 (typeOf u) e in
+      let s = short-2 (packetKind u) e in
       let b : getD u 13 0 < 256 = bytes 13 in
       record {
-        kind = sym (eqb-true (typeOf u) 2 e);
+        kind = sym (eqb-true (packetKind u) 2 e);
         destination = refl;
         number = refl;
         thirteen = omega arith;
@@ -332,11 +332,11 @@ module _ (u : List ℕ) (bytes : Bytes u) (others : NoOthers u) where
         nibbles = rw (le-ltb 15 (getD u 13 0 / 16) (omega arith), le-ltb 15 (getD u 13 0 % 16) (omega arith));
       }
 
-  same-data : eqb (typeOf u) 2 ≡ false → eqb (typeOf u) 6 ≡ true → Same (fieldsOf (Data (littleAt 8 u 0) (bigAt 4 u 8) (eqb (getD u 13 0 % 2) 1))) u
+  same-data : eqb (packetKind u) 2 ≡ false → eqb (packetKind u) 6 ≡ true → Same (headerFields (Data (littleAt 8 u 0) (bigAt 4 u 8) (eqb (getD u 13 0 % 2) 1))) u
   unfolding byte13 byte14
   same-data e g =
-      let s = short-6 (typeOf u) e g in
-      let t = eqb-true (typeOf u) 6 g in
+      let s = short-6 (packetKind u) e g in
+      let t = eqb-true (packetKind u) 6 g in
       record {
         kind = sym t;
         destination = refl;
@@ -349,10 +349,10 @@ module _ (u : List ℕ) (bytes : Bytes u) (others : NoOthers u) where
         nibbles = refl;
       }
 
-  same-long : isListed (typeOf u) ≡ true → eqb (typeOf u) 2 ≡ false → eqb (typeOf u) 6 ≡ false → Same (fieldsOf (longKind (typeOf u) (longAt u))) u
+  same-long : isListed (packetKind u) ≡ true → eqb (packetKind u) 2 ≡ false → eqb (packetKind u) 6 ≡ false → Same (headerFields (longHeader (packetKind u) (longAt u))) u
   unfolding byte13 byte14 longAt
   same-long l e g =
-      rw (long-fields (typeOf u) (longAt u) l e g)
+      rw (long-fields (packetKind u) (longAt u) l e g)
       (record {
         kind = refl;
         destination = refl;
@@ -365,13 +365,13 @@ module _ (u : List ℕ) (bytes : Bytes u) (others : NoOthers u) where
         nibbles = rw e;
       })
 
-  same-fields : isListed (typeOf u) ≡ true → Same (fieldsOf (kindOf u)) u
-  unfolding kindOf
-  same-fields listed = go (eqb (typeOf u) 2) (eqb (typeOf u) 6) refl refl
+  same-fields : isListed (packetKind u) ≡ true → Same (headerFields (headerAt u)) u
+  unfolding headerAt
+  same-fields listed = go (eqb (packetKind u) 2) (eqb (packetKind u) 6) refl refl
     where
-      go : (x y : Bool) → eqb (typeOf u) 2 ≡ x → eqb (typeOf u) 6 ≡ y
-          → Same (fieldsOf (cond x (SessionConfirmed (littleAt 8 u 0) (bigAt 4 u 8) (getD u 13 0 / 16) (getD u 13 0 % 16))
-          (cond y (Data (littleAt 8 u 0) (bigAt 4 u 8) (eqb (getD u 13 0 % 2) 1)) (longKind (typeOf u) (longAt u))))) u
+      go : (x y : Bool) → eqb (packetKind u) 2 ≡ x → eqb (packetKind u) 6 ≡ y
+          → Same (headerFields (cond x (SessionConfirmed (littleAt 8 u 0) (bigAt 4 u 8) (getD u 13 0 / 16) (getD u 13 0 % 16))
+          (cond y (Data (littleAt 8 u 0) (bigAt 4 u 8) (eqb (getD u 13 0 % 2) 1)) (longHeader (packetKind u) (longAt u))))) u
       go true y ex ey = same-confirmed ex
       go false true ex ey = same-data ex ey
       go false false ex ey = same-long listed ex ey
@@ -387,7 +387,7 @@ module _ (u : List ℕ) (f : Fields) (h : 32 ≤ length u) (bytes : Bytes u) (ot
       ∙ ap₂ (λ (a b : List ℕ). a ++ b) (sym (part-add u 0 8 4)) (sym (part-reads u 12 3 0 (omega arith)))
       ∙ sym (part-add u 0 12 4))
 
-  ids-again : isShort (typeOf u) ≡ false → idBytes f ≡ part u 16 16
+  ids-again : isShort (packetKind u) ≡ false → idBytes f ≡ part u 16 16
   unfolding idBytes
   ids-again s =
       rw (same .source s, same .token s)
@@ -395,7 +395,7 @@ module _ (u : List ℕ) (f : Fields) (h : 32 ≤ length u) (bytes : Bytes u) (ot
       ∙ sym (part-add u 16 8 8))
 
   plain-again : plain f u ≡ u
-  unfolding plain headBytes
+  unfolding plain headerBytes
   plain-again = go (isShort (f .kind)) refl
     where
       go : (s : Bool) → isShort (f .kind) ≡ s → splice u 0 (cond s (frontBytes f) (frontBytes f ++ idBytes f)) ≡ u
@@ -405,17 +405,17 @@ module _ (u : List ℕ) (f : Fields) (h : 32 ≤ length u) (bytes : Bytes u) (ot
           ∙ splice-part u 0 32 (omega arith)
 
   -- they are not refused where the unmasked header was not, and the packet is as long as writing needs
-  number-again : (n : ℕ) → Taken u n → needOf (typeOf u) ≤ n → writeNumber f n ≡ 0
+  number-again : (n : ℕ) → Taken u n → needOf (packetKind u) ≤ n → writeNumber f n ≡ 0
   unfolding writeNumber
   number-again n t need =
-      rw (same .nibbles, same .kind, same .number, t .listed, version-again, t .numbered, le-ltb n (needOf (typeOf u)) need)
+      rw (same .nibbles, same .kind, same .number, t .listed, version-again, t .numbered, le-ltb n (needOf (packetKind u)) need)
     where
-      go : (s : Bool) → isShort (typeOf u) ≡ s → (not s && not (isVersion (f .version))) ≡ false
+      go : (s : Bool) → isShort (packetKind u) ≡ s → (not s && not (isVersion (f .version))) ≡ false
       go true e = refl
       go false e = rw (same .version e) (rw e at (t .versed))
 
-      version-again : (not (isShort (typeOf u)) && not (isVersion (f .version))) ≡ false
-      version-again = go (isShort (typeOf u)) refl
+      version-again : (not (isShort (packetKind u)) && not (isVersion (f .version))) ≡ false
+      version-again = go (isShort (packetKind u)) refl
 
 bytes-front : (k1 k2 p : List ℕ) → Bytes p → Bytes (front k1 k2 p)
 unfolding front stream
@@ -430,53 +430,53 @@ bytes-rest k2 t p b = bytes-masked p (block k2 1 (replicate 12 0)) 16 (longOf t)
 
 pub bytes-unmasked : (k1 k2 p : List ℕ) → Bytes p → Bytes (unmasked k1 k2 p)
 unfolding unmasked
-bytes-unmasked k1 k2 p b = bytes-rest k2 (typeOf (front k1 k2 p)) (front k1 k2 p) (bytes-front k1 k2 p b)
+bytes-unmasked k1 k2 p b = bytes-rest k2 (packetKind (front k1 k2 p)) (front k1 k2 p) (bytes-front k1 k2 p b)
 
-pub bytes-written : (k1 k2 : List ℕ) (f : Fields) (p : List ℕ) → Bytes (plain f p) → Bytes (written k1 k2 f p)
-unfolding written
+pub bytes-written : (k1 k2 : List ℕ) (f : Fields) (p : List ℕ) → Bytes (plain f p) → Bytes (writtenPacket k1 k2 f p)
+unfolding writtenPacket
 bytes-written k1 k2 f p b = bytes-front k1 k2 (rest k2 (f .kind) (plain f p)) (bytes-rest k2 (f .kind) (plain f p) b)
 
 -- a packet that was read
-pub read-passed : (k1 k2 p : List ℕ) → readNumber k1 k2 p ≡ 0 → (40 ≤ length p) × (refusalOf (front k1 k2 p) (length p) ≡ 0)
+pub read-passed : (k1 k2 p : List ℕ) → readNumber k1 k2 p ≡ 0 → (40 ≤ length p) × (frontRefusal (front k1 k2 p) (length p) ≡ 0)
 unfolding readNumber
 read-passed k1 k2 p e = go (ltb (length p) 40) refl e
   where
-    go : (b : Bool) → ltb (length p) 40 ≡ b → cond b 20 (refusalOf (front k1 k2 p) (length p)) ≡ 0 → (40 ≤ length p) × (refusalOf (front k1 k2 p) (length p) ≡ 0)
+    go : (b : Bool) → ltb (length p) 40 ≡ b → cond b 20 (frontRefusal (front k1 k2 p) (length p)) ≡ 0 → (40 ≤ length p) × (frontRefusal (front k1 k2 p) (length p) ≡ 0)
     go true eb z = absurd (omega arith)
     go false eb z = (ltb-false (length p) 40 eb, z)
 
-module _ (k1 k2 p : List ℕ) (h : 40 ≤ length p) (z : refusalOf (front k1 k2 p) (length p) ≡ 0) where
-  room : 16 + longOf (typeOf (front k1 k2 p)) ≤ length (front k1 k2 p)
+module _ (k1 k2 p : List ℕ) (h : 40 ≤ length p) (z : frontRefusal (front k1 k2 p) (length p) ≡ 0) where
+  room : 16 + longOf (packetKind (front k1 k2 p)) ≤ length (front k1 k2 p)
   room = rw (length-front k1 k2 p h) (read-room (front k1 k2 p) (length p) h z)
 
   pub length-unmasked : length (unmasked k1 k2 p) ≡ length p
   unfolding unmasked
-  length-unmasked = length-rest k2 (typeOf (front k1 k2 p)) (front k1 k2 p) room ∙ length-front k1 k2 p h
+  length-unmasked = length-rest k2 (packetKind (front k1 k2 p)) (front k1 k2 p) room ∙ length-front k1 k2 p h
 
-  type-unmasked : typeOf (unmasked k1 k2 p) ≡ typeOf (front k1 k2 p)
+  type-unmasked : packetKind (unmasked k1 k2 p) ≡ packetKind (front k1 k2 p)
   unfolding unmasked
-  type-unmasked = type-rest k2 (typeOf (front k1 k2 p)) (front k1 k2 p) room
+  type-unmasked = type-rest k2 (packetKind (front k1 k2 p)) (front k1 k2 p) room
 
   pub taken-unmasked : Taken (unmasked k1 k2 p) (length p)
   unfolding unmasked
   taken-unmasked =
-      read-taken (unmasked k1 k2 p) (length p) (front-rest k2 (typeOf (front k1 k2 p)) (front k1 k2 p) room (length p) ∙ z)
+      read-taken (unmasked k1 k2 p) (length p) (front-rest k2 (packetKind (front k1 k2 p)) (front k1 k2 p) room (length p) ∙ z)
 
   -- masked again, the unmasked packet is the packet
-  masked-again : front k1 k2 (rest k2 (typeOf (unmasked k1 k2 p)) (unmasked k1 k2 p)) ≡ p
+  masked-again : front k1 k2 (rest k2 (packetKind (unmasked k1 k2 p)) (unmasked k1 k2 p)) ≡ p
   unfolding unmasked
   masked-again =
       ap (λ (t : ℕ). front k1 k2 (rest k2 t (unmasked k1 k2 p))) type-unmasked
-      ∙ ap (front k1 k2) (rest-twice k2 (typeOf (front k1 k2 p)) (front k1 k2 p) room)
+      ∙ ap (front k1 k2) (rest-twice k2 (packetKind (front k1 k2 p)) (front k1 k2 p) room)
       ∙ front-twice k1 k2 p h
 
 pub read-is-written : ReadIsWritten
-unfolding written
+unfolding writtenPacket
 read-is-written k1 k2 p b e others need =
     let passed = read-passed k1 k2 p e in
     let h = passed .0 in
     let u = unmasked k1 k2 p in
-    let f = fieldsOf (kindOf u) in
+    let f = headerFields (headerAt u) in
     let taken = taken-unmasked k1 k2 p h (passed .1) in
     let bytes = bytes-unmasked k1 k2 p b in
     let same = same-fields u bytes others (taken .listed) in

@@ -11,20 +11,20 @@ use Rattle.header.specs.declared.HeaderKind.the-variants.{SessionRequest
 use Rattle.header.specs.declared.Answer.{Answer}
 use Rattle.header.specs.declared.Answer.the-variants.{Header, Refused}
 use Rattle.header.specs.Kinds.{isKeyed, isShort, isListed, isVersion}
-use Rattle.header.specs.Unmasking.{front, typeOf, unmasked}
+use Rattle.header.specs.Unmasking.{front, packetKind, unmasked}
 
 -- the refusal of a packet of n bytes whose first 16 are unmasked in q; 0 is none
-unfoldable pub refusalOf : List ℕ → ℕ → ℕ
-refusalOf q n =
-    cond (not (isListed (typeOf q))) 21
-    (cond (not (isShort (typeOf q)) && not (isVersion (getD q 13 0))) 22
-    (cond (isKeyed (typeOf q) && ltb n 64) 23
-    (cond (eqb (typeOf q) 2 && not (eqb (bigAt 4 q 8) 0)) 24
+unfoldable pub frontRefusal : List ℕ → ℕ → ℕ
+frontRefusal q n =
+    cond (not (isListed (packetKind q))) 21
+    (cond (not (isShort (packetKind q)) && not (isVersion (getD q 13 0))) 22
+    (cond (isKeyed (packetKind q) && ltb n 64) 23
+    (cond (eqb (packetKind q) 2 && not (eqb (bigAt 4 q 8) 0)) 24
     0)))
 
 -- the number that reading gives: 20 to 24 in this order, or 0
 unfoldable pub readNumber : List ℕ → List ℕ → List ℕ → ℕ
-readNumber k1 k2 p = cond (ltb (length p) 40) 20 (refusalOf (front k1 k2 p) (length p))
+readNumber k1 k2 p = cond (ltb (length p) 40) 20 (frontRefusal (front k1 k2 p) (length p))
 
 -- the fields of an unmasked header of 32 or 64 bytes
 unfoldable pub longAt : List ℕ → Long
@@ -39,8 +39,8 @@ longAt u =
     }
 
 -- a header of 32 or 64 bytes by its type
-unfoldable pub longKind : ℕ → Long → HeaderKind
-longKind t l =
+unfoldable pub longHeader : ℕ → Long → HeaderKind
+longHeader t l =
     cond (eqb t 0) (SessionRequest l)
     (cond (eqb t 1) (SessionCreated l)
     (cond (eqb t 7) (PeerTest l)
@@ -49,16 +49,16 @@ longKind t l =
     (HolePunch l)))))
 
 -- the fields of an unmasked header: SessionConfirmed has fragment and count in byte 13, Data its flag in bit 0 of it
-unfoldable pub kindOf : List ℕ → HeaderKind
-kindOf u =
-    cond (eqb (typeOf u) 2) (SessionConfirmed (littleAt 8 u 0) (bigAt 4 u 8) (getD u 13 0 / 16) (getD u 13 0 % 16))
-    (cond (eqb (typeOf u) 6) (Data (littleAt 8 u 0) (bigAt 4 u 8) (eqb (getD u 13 0 % 2) 1))
-    (longKind (typeOf u) (longAt u)))
+unfoldable pub headerAt : List ℕ → HeaderKind
+headerAt u =
+    cond (eqb (packetKind u) 2) (SessionConfirmed (littleAt 8 u 0) (bigAt 4 u 8) (getD u 13 0 / 16) (getD u 13 0 % 16))
+    (cond (eqb (packetKind u) 6) (Data (littleAt 8 u 0) (bigAt 4 u 8) (eqb (getD u 13 0 % 2) 1))
+    (longHeader (packetKind u) (longAt u)))
 
 -- the answer: the refusal, or the fields of the type at hand
-unfoldable pub answerOf : List ℕ → List ℕ → List ℕ → Answer
-answerOf k1 k2 p = cond (eqb (readNumber k1 k2 p) 0) (Header (kindOf (unmasked k1 k2 p))) (Refused (readNumber k1 k2 p))
+unfoldable pub headerAnswer : List ℕ → List ℕ → List ℕ → Answer
+headerAnswer k1 k2 p = cond (eqb (readNumber k1 k2 p) 0) (Header (headerAt (unmasked k1 k2 p))) (Refused (readNumber k1 k2 p))
 
 -- the packet afterwards: unmasked, or as it came
-unfoldable pub leftBy : List ℕ → List ℕ → List ℕ → List ℕ
-leftBy k1 k2 p = cond (eqb (readNumber k1 k2 p) 0) (unmasked k1 k2 p) p
+unfoldable pub packetAfterRead : List ℕ → List ℕ → List ℕ → List ℕ
+packetAfterRead k1 k2 p = cond (eqb (readNumber k1 k2 p) 0) (unmasked k1 k2 p) p

@@ -12,19 +12,19 @@ use Rattle.header.specs.declared.HeaderKind.{HeaderKind}
 use Rattle.header.specs.declared.HeaderKind.the-variants.{SessionRequest, SessionCreated, SessionConfirmed, Data, PeerTest, Retry, TokenRequest, HolePunch}
 use Rattle.header.specs.declared.Answer.the-variants.{Header}
 use Rattle.header.specs.Kinds.{isShort, needOf}
-use Rattle.header.specs.Unmasking.{typeOf, unmasked}
-use Rattle.header.specs.Reading.{readNumber, longKind, kindOf, answerOf, leftBy}
-use Rattle.header.specs.Writing.{writeNumber, plain, written}
+use Rattle.header.specs.Unmasking.{packetKind, unmasked}
+use Rattle.header.specs.Reading.{readNumber, longHeader, headerAt, headerAnswer, packetAfterRead}
+use Rattle.header.specs.Writing.{writeNumber, plain, writtenPacket}
 
 -- fields within their widths, as every call has them
-pub record Fits (f : Fields) : Type 0 where
+pub record LongInWidth (f : Fields) : Type 0 where
   pub destination : f .destination < 2 ^ 64
   pub number : f .number < 2 ^ 32
   pub source : f .source < 2 ^ 64
   pub token : f .token < 2 ^ 64
 
 -- the fields of a byte within it, as every call has them
-pub record Narrow (f : Fields) : Type 0 where
+pub record BytesInWidth (f : Fields) : Type 0 where
   pub kind : f .kind < 2 ^ 8
   pub version : f .version < 2 ^ 8
   pub network : f .network < 2 ^ 8
@@ -48,11 +48,11 @@ own f =
     }
 
 -- the header that fields stand for
-unfoldable pub shown : Fields → HeaderKind
-shown f =
+unfoldable pub headerOf : Fields → HeaderKind
+headerOf f =
     cond (eqb (f .kind) 2) (SessionConfirmed (f .destination) (f .number) (f .fragment) (f .count))
     (cond (eqb (f .kind) 6) (Data (f .destination) (f .number) (f .immediate))
-    (longKind (f .kind)
+    (longHeader (f .kind)
     (record { destination = f .destination; number = f .number; version = f .version; network = f .network; source = f .source; token = f .token })))
 
 -- the fields of a header of 32 or 64 bytes, with its type; those that it does not have are 0
@@ -72,32 +72,32 @@ ofLong t l =
     }
 
 -- the fields of a header that was read
-abbrev pub fieldsOf : HeaderKind → Fields
-fieldsOf (SessionRequest l) = ofLong 0 l
-fieldsOf (SessionCreated l) = ofLong 1 l
-fieldsOf (SessionConfirmed d n i k) =
+abbrev pub headerFields : HeaderKind → Fields
+headerFields (SessionRequest l) = ofLong 0 l
+headerFields (SessionCreated l) = ofLong 1 l
+headerFields (SessionConfirmed d n i k) =
     record { kind = 2; destination = d; number = n; version = 0; network = 0; source = 0; token = 0; fragment = i; count = k; immediate = false }
-fieldsOf (Data d n a) =
+headerFields (Data d n a) =
     record { kind = 6; destination = d; number = n; version = 0; network = 0; source = 0; token = 0; fragment = 0; count = 0; immediate = a }
-fieldsOf (PeerTest l) = ofLong 7 l
-fieldsOf (Retry l) = ofLong 9 l
-fieldsOf (TokenRequest l) = ofLong 10 l
-fieldsOf (HolePunch l) = ofLong 11 l
+headerFields (PeerTest l) = ofLong 7 l
+headerFields (Retry l) = ofLong 9 l
+headerFields (TokenRequest l) = ofLong 10 l
+headerFields (HolePunch l) = ofLong 11 l
 
 -- the bits of an unmasked header that no field names are 0
 pub record NoOthers (u : List ℕ) : Type 0 where
   pub last : getD u 15 0 ≡ 0
-  pub short : isShort (typeOf u) ≡ true → getD u 14 0 ≡ 0
-  pub flags : typeOf u ≡ 6 → getD u 13 0 < 2
+  pub short : isShort (packetKind u) ≡ true → getD u 14 0 ≡ 0
+  pub flags : packetKind u ≡ 6 → getD u 13 0 < 2
 
 -- reading what was written gives the same fields and the plain packet
 abbrev pub WrittenIsRead : Type 0
 WrittenIsRead =
-    (k1 k2 : List ℕ) (f : Fields) (p : List ℕ) → Fits f → writeNumber f (length p) ≡ 0
-    → (answerOf k1 k2 (written k1 k2 f p) ≡ Header (shown f)) × (leftBy k1 k2 (written k1 k2 f p) ≡ plain f p)
+    (k1 k2 : List ℕ) (f : Fields) (p : List ℕ) → LongInWidth f → writeNumber f (length p) ≡ 0
+    → (headerAnswer k1 k2 (writtenPacket k1 k2 f p) ≡ Header (headerOf f)) × (packetAfterRead k1 k2 (writtenPacket k1 k2 f p) ≡ plain f p)
 
 -- what reading took, written again over the unmasked packet, is the packet
 abbrev pub ReadIsWritten : Type 0
 ReadIsWritten =
-    (k1 k2 p : List ℕ) → Bytes p → readNumber k1 k2 p ≡ 0 → NoOthers (unmasked k1 k2 p) → needOf (typeOf (unmasked k1 k2 p)) ≤ length p
-    → (writeNumber (fieldsOf (kindOf (unmasked k1 k2 p))) (length p) ≡ 0) × (written k1 k2 (fieldsOf (kindOf (unmasked k1 k2 p))) (unmasked k1 k2 p) ≡ p)
+    (k1 k2 p : List ℕ) → Bytes p → readNumber k1 k2 p ≡ 0 → NoOthers (unmasked k1 k2 p) → needOf (packetKind (unmasked k1 k2 p)) ≤ length p
+    → (writeNumber (headerFields (headerAt (unmasked k1 k2 p))) (length p) ≡ 0) × (writtenPacket k1 k2 (headerFields (headerAt (unmasked k1 k2 p))) (unmasked k1 k2 p) ≡ p)

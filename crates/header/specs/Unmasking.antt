@@ -27,9 +27,9 @@ unfoldable pub rest : List ℕ → ℕ → List ℕ → List ℕ
 rest k2 t p = masked p 16 (longOf t) (stream k2 (replicate 12 0))
 
 -- the type of an unmasked packet
-abbrev pub typeOf : List ℕ → ℕ
-typeOf q = getD q 12 0
+abbrev pub packetKind : List ℕ → ℕ
+packetKind q = getD q 12 0
 
 -- the whole packet unmasked
 unfoldable pub unmasked : List ℕ → List ℕ → List ℕ → List ℕ
-unmasked k1 k2 p = rest k2 (typeOf (front k1 k2 p)) (front k1 k2 p)
+unmasked k1 k2 p = rest k2 (packetKind (front k1 k2 p)) (front k1 k2 p)

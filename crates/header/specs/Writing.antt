@@ -40,17 +40,17 @@ unfoldable pub idBytes : Fields → List ℕ
 idBytes f = littleBytes 8 (f .source) ++ littleBytes 8 (f .token)
 
 -- the plain header from its start: 16 bytes for the short ones, else 32
-unfoldable pub headBytes : Fields → List ℕ
-headBytes f = cond (isShort (f .kind)) (frontBytes f) (frontBytes f ++ idBytes f)
+unfoldable pub headerBytes : Fields → List ℕ
+headerBytes f = cond (isShort (f .kind)) (frontBytes f) (frontBytes f ++ idBytes f)
 
 -- the packet with its plain header
 unfoldable pub plain : Fields → List ℕ → List ℕ
-plain f p = splice p 0 (headBytes f)
+plain f p = splice p 0 (headerBytes f)
 
 -- the packet with its header written and masked
-unfoldable pub written : List ℕ → List ℕ → Fields → List ℕ → List ℕ
-written k1 k2 f p = front k1 k2 (rest k2 (f .kind) (plain f p))
+unfoldable pub writtenPacket : List ℕ → List ℕ → Fields → List ℕ → List ℕ
+writtenPacket k1 k2 f p = front k1 k2 (rest k2 (f .kind) (plain f p))
 
 -- the packet afterwards: written, or as it came
-unfoldable pub leftByWrite : List ℕ → List ℕ → Fields → List ℕ → List ℕ
-leftByWrite k1 k2 f p = cond (eqb (writeNumber f (length p)) 0) (written k1 k2 f p) p
+unfoldable pub packetAfterWrite : List ℕ → List ℕ → Fields → List ℕ → List ℕ
+packetAfterWrite k1 k2 f p = cond (eqb (writeNumber f (length p)) 0) (writtenPacket k1 k2 f p) p

@@ -7,13 +7,13 @@ ghost use lib.ListN.{length};
 fn read_part(work: &mut [u8], n: usize, k1: &[u8; 32], k2: &[u8; 32]) -> Answer
     requires { ⌜ n ≤ length (now work) ⌝ }
 {
-    packets::read(&mut work[0..n], k1, k2)
+    header_packets::read(&mut work[0..n], k1, k2)
 }
 
 fn write_part(f: Fields, work: &mut [u8], n: usize, k1: &[u8; 32], k2: &[u8; 32]) -> u32
     requires { ⌜ n ≤ length (now work) ⌝ }
 {
-    packets::write(f, &mut work[0..n], k1, k2)
+    header_packets::write(f, &mut work[0..n], k1, k2)
 }
 
 fn begin_part(a: &[u8], with: &[u8]) -> bool {

@@ -1,7 +1,7 @@
 // The tests on a header's type, version and number, and the order of the refusals.
 ghost use mathlib.Core.Path.{_≡_};
 ghost use Rattle.header.specs.Kinds.{isKeyed, isShort, isMiddle, isListed, isVersion, longOf, needOf};
-ghost use Rattle.header.specs.Reading.{refusalOf};
+ghost use Rattle.header.specs.Reading.{frontRefusal};
 ghost use Rattle.header.specs.Writing.{writeNumber};
 use header::Fields;
 
@@ -63,11 +63,11 @@ fn need_of(t: u8) -> usize
 
 // The refusal of a packet of n bytes whose first 16 are these; 0 is none.
 pub fn refusal(head: [u8; 16], n: usize) -> u32
-    ensures { λ r. ⌜ r ≡ refusalOf head n ⌝ }
+    ensures { λ r. ⌜ r ≡ frontRefusal head n ⌝ }
 {
     let t = head[12];
     let v = head[13];
-    let number = wire_reads::be_u32(&head, 8);
+    let number = wire_numbers::be_u32(&head, 8);
     if !is_listed(t) {
         return 21;
     }

@@ -10,7 +10,7 @@ use lib.ListN.{length, getD, drop, drop-of-length-le}
 use lib.Seq.{drop-cons}
 use borrow.Author.Tests.{lt-ltb, le-ltb, eq-eqb, ne-eqb}
 use Rattle.lines.specs.declared.Got.the-variants as As
-use Rattle.lines.specs.Digits.{digitOf, decimals, valueFrom, numberFrom, numberOf}
+use Rattle.lines.specs.Digits.{digitOf, decimals, valueFrom, numberFrom, decimalOf}
 
 -- more digits make no smaller number
 value-grows : (l : List ℕ) (x : ℕ) → x ≤ valueFrom x l
@@ -43,10 +43,10 @@ module _ (l : List ℕ) (i x : ℕ) where
   number-end h g = rw (drop-of-length-le l {i = i} h, lt-ltb x (2 ^ 64) g)
 
 module _ (l : List ℕ) where
-  pub number-none : length l ≡ 0 → As.Bad ≡ numberOf l
-  unfolding numberOf
+  pub number-none : length l ≡ 0 → As.Bad ≡ decimalOf l
+  unfolding decimalOf
   number-none h = rw (eq-eqb (length l) 0 h)
 
-  pub number-some : (length l ≡ 0 → ⊥) → numberOf l ≡ numberFrom 0 l
-  unfolding numberOf
+  pub number-some : (length l ≡ 0 → ⊥) → decimalOf l ≡ numberFrom 0 l
+  unfolding decimalOf
   number-some h = rw (ne-eqb (length l) 0 h)

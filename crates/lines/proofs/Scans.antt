@@ -10,18 +10,18 @@ use lib.Seq.{drop-cons}
 use borrow.Author.Tests.{eq-eqb, ne-eqb}
 use Rattle.wire.proofs.Parts.{part-is}
 use Rattle.wire.proofs.Slices.{part-past}
-use Rattle.lines.specs.Fields.{ends, lead, fieldAt, wholeUpTo}
+use Rattle.lines.specs.Fields.{isEnd, lead, fieldAt, wholeUpTo}
 
 -- ---- what stands before an end
 
 module _ (own : ℕ) (l : List ℕ) (i : ℕ) where
   -- it ends here
-  pub lead-ends : i < length l → ends own (getD l i 0) ≡ true → lead own (drop i l) ≡ 0
+  pub lead-ends : i < length l → isEnd own (getD l i 0) ≡ true → lead own (drop i l) ≡ 0
   unfolding lead
   lead-ends h t = rw (drop-cons l i 0 h, t)
 
   -- one byte more
-  pub lead-goes : i < length l → ends own (getD l i 0) ≡ false → i + lead own (drop i l) ≡ i + 1 + lead own (drop (i + 1) l)
+  pub lead-goes : i < length l → isEnd own (getD l i 0) ≡ false → i + lead own (drop i l) ≡ i + 1 + lead own (drop (i + 1) l)
   unfolding lead
   lead-goes h t =
       let e : lead own (drop i l) ≡ suc (lead own (drop (i + 1) l)) = rw (add-one i, drop-cons l i 0 h, t) in

@@ -9,12 +9,12 @@ use Rattle.lines.specs.declared.Got.{Got}
 use Rattle.lines.specs.declared.Got.the-variants as As
 
 -- a byte is one of those from low to high
-abbrev pub within : ℕ → ℕ → ℕ → Bool
-within low high b = leb low b && leb b high
+abbrev pub between : ℕ → ℕ → ℕ → Bool
+between low high b = leb low b && leb b high
 
 -- the value of a digit, 0 to 9 (bytes 48 to 57) or a to f (97 to 102); 16 where a byte is none
 unfoldable pub digitOf : ℕ → ℕ
-digitOf b = cond (within 48 57 b) (b - 48) (cond (within 97 102 b) (b - 87) 16)
+digitOf b = cond (between 48 57 b) (b - 48) (cond (between 97 102 b) (b - 87) 16)
 
 -- the byte of two hex digits, the high one first; 256 where one of them is none
 unfoldable pub pairOf : ℕ → ℕ → ℕ
@@ -58,5 +58,5 @@ unfoldable pub numberFrom : ℕ → List ℕ → Got
 numberFrom x l = cond (decimals l && ltb (valueFrom x l) (2 ^ 64)) (As.Of (valueFrom x l)) As.Bad
 
 -- the number that a field is; an empty one is none
-unfoldable pub numberOf : List ℕ → Got
-numberOf l = cond (eqb (length l) 0) As.Bad (numberFrom 0 l)
+unfoldable pub decimalOf : List ℕ → Got
+decimalOf l = cond (eqb (length l) 0) As.Bad (numberFrom 0 l)

@@ -7,13 +7,13 @@ use lib.ListN.{length, getD, drop}
 use Rattle.wire.specs.Parts.{part}
 
 -- a byte ends what ends at a byte of its own: it is that byte or a newline
-abbrev pub ends : ℕ → ℕ → Bool
-ends own b = eqb b 10 || eqb b own
+abbrev pub isEnd : ℕ → ℕ → Bool
+isEnd own b = eqb b 10 || eqb b own
 
 -- how many bytes stand before such a byte, or before the end
 unfoldable pub lead : ℕ → List ℕ → ℕ
 lead own [] = 0
-lead own (b ∷ bs) = cond (ends own b) 0 (suc (lead own bs))
+lead own (b ∷ bs) = cond (isEnd own b) 0 (suc (lead own bs))
 
 -- the field at a place; past the text's end it is empty
 unfoldable pub fieldAt : List ℕ → ℕ → List ℕ
@@ -29,9 +29,9 @@ wholeUpTo text zero = 0
 wholeUpTo text (suc n) = cond (eqb (getD text n 0) 10) (suc n) (wholeUpTo text n)
 
 -- how many bytes from `used` up to `have` a buffer of so many bytes has
-abbrev pub left : ℕ → ℕ → ℕ → ℕ
-left used have size = min have size - used
+abbrev pub unread : ℕ → ℕ → ℕ → ℕ
+unread used have size = min have size - used
 
 -- those bytes
 abbrev pub kept : List ℕ → ℕ → ℕ → List ℕ
-kept buf used have = part buf used (left used have (length buf))
+kept buf used have = part buf used (unread used have (length buf))

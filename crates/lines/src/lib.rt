@@ -4,15 +4,15 @@ ghost use mathlib.Core.Bool.{true};
 ghost use Prim.Native.Nat.{_+_, _-_, _≤_};
 ghost use lib.ListN.{length, drop};
 ghost use Rattle.wire.specs.Parts.{part, splice};
-ghost use Rattle.lines.specs.Fields.{ends, lead, fieldAt, past, wholeUpTo, left, kept};
-ghost use Rattle.lines.specs.Digits.{digitOf, pairOf, pairsOf, allBytes, bytesIn, withBytes, numberOf};
+ghost use Rattle.lines.specs.Fields.{isEnd, lead, fieldAt, past, wholeUpTo, unread, kept};
+ghost use Rattle.lines.specs.Digits.{digitOf, pairOf, pairsOf, allBytes, bytesIn, withBytes, decimalOf};
 
 const SPACE: u8 = 32;
 
 const NEWLINE: u8 = 10;
 
 fn ends(b: u8, own: u8) -> bool
-    ensures { λ r. ⌜ r ≡ ends own b ⌝ }
+    ensures { λ r. ⌜ r ≡ isEnd own b ⌝ }
 {
     (b == NEWLINE) | (b == own)
 }
@@ -85,7 +85,7 @@ pub fn whole(text: &[u8]) -> usize
 
 // How many bytes stand from one place up to another in a buffer of so many.
 fn between(from: usize, to: usize, size: usize) -> usize
-    ensures { λ r. ⌜ r ≡ left from to size ⌝ }
+    ensures { λ r. ⌜ r ≡ unread from to size ⌝ }
 {
     let end = wire::shorter(to, size);
     if end < from {
@@ -106,8 +106,8 @@ fn shift(buf: &mut [u8], from: usize, n: usize)
 
 // What was not used of a buffer's first bytes moved to its front, and more read after it; how many bytes there are now.
 pub fn refill(fd: i32, buf: &mut [u8], used: usize, have: usize) -> usize
-    ensures { λ r. ⌜ part (now (buf .exit)) 0 (left used have (length (now (buf .entry)))) ≡ kept (now (buf .entry)) used have ⌝ }
-    ensures { λ r. ⌜ (left used have (length (now (buf .entry))) ≤ r) × (r ≤ length (now (buf .exit))) ⌝ }
+    ensures { λ r. ⌜ part (now (buf .exit)) 0 (unread used have (length (now (buf .entry)))) ≡ kept (now (buf .entry)) used have ⌝ }
+    ensures { λ r. ⌜ (unread used have (length (now (buf .entry))) ≤ r) × (r ≤ length (now (buf .exit))) ⌝ }
 {
     let left = between(used, have, buf.len());
     shift(buf, used, left);
@@ -199,7 +199,7 @@ pub fn bytes(field: &[u8], out: &mut [u8]) -> Got
 
 // A field of decimal digits as a number below 2 ^ 64.
 pub fn number(field: &[u8]) -> Got
-    ensures { λ r. ⌜ r ≡ numberOf (now (field .entry)) ⌝ }
+    ensures { λ r. ⌜ r ≡ decimalOf (now (field .entry)) ⌝ }
 {
     if field.len() == 0 {
         return Got::Bad;

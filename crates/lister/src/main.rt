@@ -1,7 +1,7 @@
 // Lists the blocks of a payload: raw bytes from standard input, a line for each block.
 use libc::STDIN_FILENO;
 use libc::STDOUT_FILENO;
-use listing::Entry;
+use blocks_listing::Entry;
 
 const LONGEST: usize = 1500;
 
@@ -36,7 +36,7 @@ fn listed(payload: &[u8], count: usize) {
     let mut at = 0;
     let mut i = 0;
     while i < count {
-        let s = listing::step_at(payload, at);
+        let s = blocks_listing::step_at(payload, at);
         line(s.entry);
         at = s.next;
         i += 1;
@@ -48,7 +48,7 @@ fn listed(payload: &[u8], count: usize) {
 
 // A list as long as the payload holds every block, so it is never too short.
 fn list(payload: &[u8]) {
-    let answer = listing::count_blocks(payload, payload.len());
+    let answer = blocks_listing::count_blocks(payload, payload.len());
     if answer.number == 0 {
         listed(payload, answer.count);
     } else {

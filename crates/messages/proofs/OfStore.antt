@@ -16,28 +16,28 @@ use Rattle.blocks.specs.declared.Block.the-variants as Body
 use Rattle.blocks.specs.declared.Read.the-variants as Got
 use Rattle.blocks.specs.Reading.{readAt}
 use Rattle.reassembly.specs.declared.Reply.{Reply}
-use Rattle.reassembly.specs.Store.{first, follow, Whole, Answer, step}
+use Rattle.reassembly.specs.Store.{first, follow, Rebuilt, Answer, step}
 use Rattle.reassembly.specs.Calls.{After, firstCall, followOnCall}
 use Rattle.reassembly.specs.Stands.{stands, Agrees}
 use Rattle.reassembly.proofs.Steps.{first-promise, follow-promise}
 use Rattle.reassembly.proofs.Brought.{Sober, step-sober, reply-number, reply-some, laid-some}
 use Rattle.messages.specs.declared.Received.{Received}
-use Rattle.messages.specs.Delivery.{left, nothing, wholeAt, rebuiltBy, rebuilt, deliveredBy, delivered, messageIn}
+use Rattle.messages.specs.Delivery.{deliveryWith, nothing, wholeAt, rebuiltBy, rebuilt, deliveredBy, delivered, messageIn}
 use Rattle.messages.specs.Shown.{outBytes, receivedFor, OfStore, FirstOfStore, FollowOfStore}
 
 from-none : (at : ℕ) (r : Reply) (id n : ℕ) → r .number ≡ n → (n ≡ 60 → ⊥) → rebuiltBy at r id ≡ receivedFor at id n none
 unfolding rebuiltBy receivedFor
 from-none at r id n e h = rw (e, ne-eqb n 60 h) refl
 
-from-some : (at : ℕ) (r : Reply) (id n : ℕ) (w : Whole) → n ≡ 60 → r ≡ record { number = n; kind = w .typ; expires = w .expires; length = length (w .bytes) }
+from-some : (at : ℕ) (r : Reply) (id n : ℕ) (w : Rebuilt) → n ≡ 60 → r ≡ record { number = n; kind = w .kind; expires = w .expires; length = length (w .bytes) }
     → rebuiltBy at r id ≡ receivedFor at id n (some w)
 unfolding rebuiltBy receivedFor
 from-some at r id n w q e =
-    ap (λ (z : Reply). rebuiltBy at z id) (e ∙ ap (λ (z : ℕ). record { number = z; kind = w .typ; expires = w .expires; length = length (w .bytes) }) q)
+    ap (λ (z : Reply). rebuiltBy at z id) (e ∙ ap (λ (z : ℕ). record { number = z; kind = w .kind; expires = w .expires; length = length (w .bytes) }) q)
     ∙ ap (λ (z : ℕ). receivedFor at id z (some w)) (sym q)
 
 -- what is received has the store's number
-received-number : (at id n : ℕ) (o : Option Whole) → receivedFor at id n o .number ≡ n
+received-number : (at id n : ℕ) (o : Option Rebuilt) → receivedFor at id n o .number ≡ n
 unfolding receivedFor nothing
 received-number at id n (some w) = refl
 received-number at id n none = go (eqb n 0) refl
@@ -55,7 +55,7 @@ pub received-refused : (at id n : ℕ) → (n ≡ 0 → ⊥) → receivedFor at 
 unfolding receivedFor nothing
 received-refused at id n h = rw (ne-eqb n 0 h) refl
 
-pub received-whole : (at id n : ℕ) (w : Whole) → receivedFor at id n (some w) ≡ record { number = n; from = 2; kind = w .typ; id = id; expires = w .expires; start = 0; length = length (w .bytes) }
+pub received-whole : (at id n : ℕ) (w : Rebuilt) → receivedFor at id n (some w) ≡ record { number = n; from = 2; kind = w .kind; id = id; expires = w .expires; start = 0; length = length (w .bytes) }
 unfolding receivedFor
 received-whole at id n w = refl
 
@@ -67,7 +67,7 @@ none-shown s out at id n = go (eqb n 0)
     go true = refl
     go false = refl
 
-some-shown : (s out : List ℕ) (at id n : ℕ) (w : Whole) → length (w .bytes) ≤ length out → messageIn s (splice out 0 (w .bytes)) (receivedFor at id n (some w)) ≡ w .bytes
+some-shown : (s out : List ℕ) (at id n : ℕ) (w : Rebuilt) → length (w .bytes) ≤ length out → messageIn s (splice out 0 (w .bytes)) (receivedFor at id n (some w)) ≡ w .bytes
 unfolding messageIn receivedFor
 some-shown s out at id n w h = part-same out 0 (w .bytes) (omega arith)
 
@@ -76,7 +76,7 @@ unfolding rebuilt outBytes
 rebuilt-of s at out x a id g b = go (a .out) refl
   where
     of : rebuiltBy at (x .reply) id ≡ receivedFor at id (a .number) (a .out) → messageIn s (x .out) (receivedFor at id (a .number) (a .out)) ≡ outBytes (a .out)
-        → OfStore s at id out (left (rebuiltBy at (x .reply) id) (x .rec) (x .room) (x .out)) a
+        → OfStore s at id out (deliveryWith (rebuiltBy at (x .reply) id) (x .rec) (x .room) (x .out)) a
     of d m =
         record {
           received = d;
@@ -87,13 +87,13 @@ rebuilt-of s at out x a id g b = go (a .out) refl
           made = g .made;
         }
 
-    go : (o : Option Whole) → a .out ≡ o → OfStore s at id out (left (rebuiltBy at (x .reply) id) (x .rec) (x .room) (x .out)) a
+    go : (o : Option Rebuilt) → a .out ≡ o → OfStore s at id out (deliveryWith (rebuiltBy at (x .reply) id) (x .rec) (x .room) (x .out)) a
     go none e =
         of (from-none at (x .reply) id (a .number) (reply-number out x a g) (b .none-out e) ∙ ap (receivedFor at id (a .number)) (sym e))
-        (ap (λ (o : Option Whole). messageIn s (x .out) (receivedFor at id (a .number) o)) e ∙ none-shown s (x .out) at id (a .number) ∙ ap outBytes (sym e))
+        (ap (λ (o : Option Rebuilt). messageIn s (x .out) (receivedFor at id (a .number) o)) e ∙ none-shown s (x .out) at id (a .number) ∙ ap outBytes (sym e))
     go (some w) e =
         of (from-some at (x .reply) id (a .number) w (b .some-out w e .0) (reply-some out x a g w e) ∙ ap (receivedFor at id (a .number)) (sym e))
-        (ap (λ (o : Option Whole). messageIn s (x .out) (receivedFor at id (a .number) o)) e
+        (ap (λ (o : Option Rebuilt). messageIn s (x .out) (receivedFor at id (a .number) o)) e
         ∙ ap (λ (z : List ℕ). messageIn s z (receivedFor at id (a .number) (some w))) (laid-some out x a g w e)
         ∙ some-shown s out at id (a .number) w (b .some-out w e .1)
         ∙ ap outBytes (sym e))

@@ -20,7 +20,7 @@ use Rattle.reassembly.specs.Careful.{Careful}
 use Rattle.reassembly.proofs.Refusals.{careful-first, careful-follow-on}
 use Rattle.reassembly.proofs.Refused.{followOnNumbers, of-first, first-numbers, follow-on-numbers}
 use Rattle.messages.specs.declared.Received.{Received}
-use Rattle.messages.specs.Delivery.{Left, left, nothing, wholeAt, rebuiltBy, rebuilt, deliveredBy, delivered}
+use Rattle.messages.specs.Delivery.{Delivery, deliveryWith, nothing, wholeAt, rebuiltBy, rebuilt, deliveredBy, delivered}
 
 -- a piece's number is the store's
 number-is : (at : ℕ) (r : Reply) (id : ℕ) → rebuiltBy at r id .number ≡ r .number
@@ -49,8 +49,8 @@ nothing-start n p = refl
 
 module _ (s : List ℕ) (at : ℕ) (rec room out : List ℕ) (second : ℕ) where
   -- neither kept nor finished: the number, the block's place, and all is as it was
-  abbrev Stays : Left → Type 0
-  Stays x = (x .received .number ≡ 0 → ⊥) → (x .received .number ≡ 60 → ⊥) → x ≡ left (nothing (x .received .number) at) rec room out
+  abbrev Stays : Delivery → Type 0
+  Stays x = (x .received .number ≡ 0 → ⊥) → (x .received .number ≡ 60 → ⊥) → x ≡ deliveryWith (nothing (x .received .number) at) rec room out
 
   piece-stays : (x : After) (id : ℕ) → Careful rec room out x → Stays (rebuilt at x id)
   unfolding rebuilt
@@ -62,12 +62,12 @@ module _ (s : List ℕ) (at : ℕ) (rec room out : List ℕ) (second : ℕ) wher
       is : rebuiltBy at (x .reply) id ≡ nothing (rebuiltBy at (x .reply) id .number) at
       is = refusal-is at (x .reply) id (λ e. kept (n ∙ e)) (λ e. done (n ∙ e)) ∙ ap (λ (k : ℕ). nothing k at) (sym n)
 
-      go : ((x .reply .number ≡ 0) ⊎ ((x .reply .number ≡ 60) ⊎ (x ≡ after (x .reply) rec room out))) → rebuilt at x id ≡ left (nothing (rebuiltBy at (x .reply) id .number) at) rec room out
+      go : ((x .reply .number ≡ 0) ⊎ ((x .reply .number ≡ 60) ⊎ (x ≡ after (x .reply) rec room out))) → rebuilt at x id ≡ deliveryWith (nothing (rebuiltBy at (x .reply) id .number) at) rec room out
       go (inl e) = absurd (kept (n ∙ e))
       go (inr (inl e)) = absurd (done (n ∙ e))
       go (inr (inr e)) =
-          ap (λ (y : After). left (rebuiltBy at (x .reply) id) (y .rec) (y .room) (y .out)) e
-          ∙ ap (λ (r : Received). left r rec room out) is
+          ap (λ (y : After). deliveryWith (rebuiltBy at (x .reply) id) (y .rec) (y .room) (y .out)) e
+          ∙ ap (λ (r : Received). deliveryWith r rec room out) is
 
   block-stays : (b : Block) → Stays (deliveredBy s at rec room out second b)
   unfolding deliveredBy wholeAt nothing
@@ -100,7 +100,7 @@ module _ (s : List ℕ) (at : ℕ) (rec room out : List ℕ) (second : ℕ) wher
     where
       go : (r : Read) → readAt s at ≡ r → Stays (delivered s at rec room out second r)
       go (Got.Block b z n) e = block-stays b
-      go (Got.Refused m p) e = λ kept done. ap (λ (q : ℕ). left (nothing m q) rec room out) (read-numbers s at m p e .0)
+      go (Got.Refused m p) e = λ kept done. ap (λ (q : ℕ). deliveryWith (nothing m q) rec room out) (read-numbers s at m p e .0)
 
 -- kept and finished, a block's refusals, a piece's
 abbrev pub deliveryNumbers : List ℕ

@@ -14,14 +14,14 @@ use Rattle.reassembly.specs.Calls.{After, firstCall, followOnCall}
 use Rattle.messages.specs.declared.Received.{Received}
 
 -- What a call leaves: what was received, and the record, the room and the assembly buffer.
-pub record Left : Type 0 where
+pub record Delivery : Type 0 where
   pub received : Received
   pub rec : List ℕ
   pub room : List ℕ
   pub out : List ℕ
 
-abbrev pub left : Received → List ℕ → List ℕ → List ℕ → Left
-left r rec room out = record { received = r; rec = rec; room = room; out = out }
+abbrev pub deliveryWith : Received → List ℕ → List ℕ → List ℕ → Delivery
+deliveryWith r rec room out = record { received = r; rec = rec; room = room; out = out }
 
 -- a number, the place of a refused block, and no message
 unfoldable pub nothing : ℕ → ℕ → Received
@@ -39,36 +39,36 @@ rebuiltBy at r id =
     (cond (eqb (r .number) 0) (nothing 0 0) (nothing (r .number) at))
 
 -- what the store's call for a piece left
-unfoldable pub rebuilt : ℕ → After → ℕ → Left
-rebuilt at x id = left (rebuiltBy at (x .reply) id) (x .rec) (x .room) (x .out)
+unfoldable pub rebuilt : ℕ → After → ℕ → Delivery
+rebuilt at x id = deliveryWith (rebuiltBy at (x .reply) id) (x .rec) (x .room) (x .out)
 
 -- a block that was read at a place
-unfoldable pub deliveredBy : List ℕ → ℕ → List ℕ → List ℕ → List ℕ → ℕ → Block → Left
-deliveredBy s at rec room out second (Body.I2np k i x p) = left (wholeAt k i x p) rec room out
+unfoldable pub deliveredBy : List ℕ → ℕ → List ℕ → List ℕ → List ℕ → ℕ → Block → Delivery
+deliveredBy s at rec room out second (Body.I2np k i x p) = deliveryWith (wholeAt k i x p) rec room out
 deliveredBy s at rec room out second (Body.FirstFragment k i x p) =
     rebuilt at (firstCall rec room out (record { id = i; number = 0; last = false; kind = k; expires = x }) second (part s (p .start) (p .len))) i
 deliveredBy s at rec room out second (Body.FollowOnFragment n l i p) =
     rebuilt at (followOnCall rec room out (record { id = i; number = n; last = l; kind = 0; expires = 0 }) second (part s (p .start) (p .len))) i
-deliveredBy s at rec room out second (Body.DateTime t) = left (nothing 0 0) rec room out
-deliveredBy s at rec room out second (Body.Options a b c d e f g h) = left (nothing 0 0) rec room out
-deliveredBy s at rec room out second (Body.RouterInfo f g p) = left (nothing 0 0) rec room out
-deliveredBy s at rec room out second (Body.Termination n r) = left (nothing 0 0) rec room out
-deliveredBy s at rec room out second (Body.Ack t n p) = left (nothing 0 0) rec room out
-deliveredBy s at rec room out second (Body.Address o p) = left (nothing 0 0) rec room out
-deliveredBy s at rec room out second Body.RelayTagRequest = left (nothing 0 0) rec room out
-deliveredBy s at rec room out second (Body.RelayTag t) = left (nothing 0 0) rec room out
-deliveredBy s at rec room out second (Body.NewToken x t) = left (nothing 0 0) rec room out
-deliveredBy s at rec room out second (Body.PathChallenge p) = left (nothing 0 0) rec room out
-deliveredBy s at rec room out second (Body.PathResponse p) = left (nothing 0 0) rec room out
-deliveredBy s at rec room out second (Body.FirstPacketNumber n) = left (nothing 0 0) rec room out
-deliveredBy s at rec room out second (Body.Congestion f) = left (nothing 0 0) rec room out
-deliveredBy s at rec room out second (Body.Padding p) = left (nothing 0 0) rec room out
-deliveredBy s at rec room out second (Body.Opaque k p) = left (nothing 0 0) rec room out
+deliveredBy s at rec room out second (Body.DateTime t) = deliveryWith (nothing 0 0) rec room out
+deliveredBy s at rec room out second (Body.Options a b c d e f g h) = deliveryWith (nothing 0 0) rec room out
+deliveredBy s at rec room out second (Body.RouterInfo f g p) = deliveryWith (nothing 0 0) rec room out
+deliveredBy s at rec room out second (Body.Termination n r) = deliveryWith (nothing 0 0) rec room out
+deliveredBy s at rec room out second (Body.Ack t n p) = deliveryWith (nothing 0 0) rec room out
+deliveredBy s at rec room out second (Body.Address o p) = deliveryWith (nothing 0 0) rec room out
+deliveredBy s at rec room out second Body.RelayTagRequest = deliveryWith (nothing 0 0) rec room out
+deliveredBy s at rec room out second (Body.RelayTag t) = deliveryWith (nothing 0 0) rec room out
+deliveredBy s at rec room out second (Body.NewToken x t) = deliveryWith (nothing 0 0) rec room out
+deliveredBy s at rec room out second (Body.PathChallenge p) = deliveryWith (nothing 0 0) rec room out
+deliveredBy s at rec room out second (Body.PathResponse p) = deliveryWith (nothing 0 0) rec room out
+deliveredBy s at rec room out second (Body.FirstPacketNumber n) = deliveryWith (nothing 0 0) rec room out
+deliveredBy s at rec room out second (Body.Congestion f) = deliveryWith (nothing 0 0) rec room out
+deliveredBy s at rec room out second (Body.Padding p) = deliveryWith (nothing 0 0) rec room out
+deliveredBy s at rec room out second (Body.Opaque k p) = deliveryWith (nothing 0 0) rec room out
 
 -- a block, or its refusal
-unfoldable pub delivered : List ℕ → ℕ → List ℕ → List ℕ → List ℕ → ℕ → Read → Left
+unfoldable pub delivered : List ℕ → ℕ → List ℕ → List ℕ → List ℕ → ℕ → Read → Delivery
 delivered s at rec room out second (Got.Block b size next) = deliveredBy s at rec room out second b
-delivered s at rec room out second (Got.Refused number place) = left (nothing number place) rec room out
+delivered s at rec room out second (Got.Refused number place) = deliveryWith (nothing number place) rec room out
 
 -- the bytes of the message that was received; none where none was
 unfoldable pub messageIn : List ℕ → List ℕ → Received → List ℕ

@@ -9,23 +9,23 @@ use lib.ListN.{length}
 use Rattle.wire.specs.Parts.{part}
 use Rattle.blocks.specs.declared.Part.{Part}
 use Rattle.blocks.specs.declared.Block.the-variants as Body
-use Rattle.reassembly.specs.Store.{first, follow, Whole, Answer, step}
+use Rattle.reassembly.specs.Store.{first, follow, Rebuilt, Answer, step}
 use Rattle.reassembly.specs.Stands.{stands, Made, laidOut}
 use Rattle.messages.specs.declared.Received.{Received}
-use Rattle.messages.specs.Delivery.{Left, nothing, deliveredBy, messageIn}
+use Rattle.messages.specs.Delivery.{Delivery, nothing, deliveredBy, messageIn}
 
 -- the bytes of what the store brings out
-unfoldable pub outBytes : Option Whole → List ℕ
+unfoldable pub outBytes : Option Rebuilt → List ℕ
 outBytes none = []
 outBytes (some w) = w .bytes
 
 -- what is received by the piece of message id that the block at a place has, where the store answers n, and brings a message out or none
-unfoldable pub receivedFor : ℕ → ℕ → ℕ → Option Whole → Received
+unfoldable pub receivedFor : ℕ → ℕ → ℕ → Option Rebuilt → Received
 receivedFor at id n none = cond (eqb n 0) (nothing 0 0) (nothing n at)
-receivedFor at id n (some w) = record { number = n; from = 2; kind = w .typ; id = id; expires = w .expires; start = 0; length = length (w .bytes) }
+receivedFor at id n (some w) = record { number = n; from = 2; kind = w .kind; id = id; expires = w .expires; start = 0; length = length (w .bytes) }
 
 -- what a fragment's block at a place left of a payload and an assembly buffer is the store's answer to its piece
-pub record OfStore (s : List ℕ) (at id : ℕ) (out : List ℕ) (x : Left) (a : Answer) : Type 0 where
+pub record OfStore (s : List ℕ) (at id : ℕ) (out : List ℕ) (x : Delivery) (a : Answer) : Type 0 where
   pub received : x .received ≡ receivedFor at id (a .number) (a .out)
   pub buffer : x .out ≡ laidOut out (a .out)
   pub number : x .received .number ≡ a .number

@@ -6,7 +6,7 @@ use reassembly::Reply;
 ghost use mathlib.Core.Path.{_≡_};
 ghost use Rattle.wire.specs.Parts.{part};
 ghost use Rattle.blocks.specs.Reading.{readAt};
-ghost use Rattle.messages.specs.Delivery.{left, nothing, wholeAt, rebuiltBy, deliveredBy, delivered, messageIn};
+ghost use Rattle.messages.specs.Delivery.{deliveryWith, nothing, wholeAt, rebuiltBy, deliveredBy, delivered, messageIn};
 
 // A call's answer: 01's number, and where a message that was received stands: 0 nowhere, 1 in the payload, 2 in the assembly buffer.
 #[repr(C)]
@@ -93,7 +93,7 @@ fn deliver(
     out: &mut [u8],
     second: u64,
 ) -> Received
-    ensures { λ r. ⌜ left r (now (rec .exit)) (now (room .exit)) (now (out .exit)) ≡ deliveredBy (now (payload .entry)) at (now (rec .entry)) (now (room .entry)) (now (out .entry)) second block ⌝ }
+    ensures { λ r. ⌜ deliveryWith r (now (rec .exit)) (now (room .exit)) (now (out .exit)) ≡ deliveredBy (now (payload .entry)) at (now (rec .entry)) (now (room .entry)) (now (out .entry)) second block ⌝ }
 {
     match block {
         Block::I2np {
@@ -109,7 +109,7 @@ fn deliver(
             bytes,
         } => {
             let piece = shown(payload, bytes.start, bytes.len);
-            let r = store::first_fragment(rec, room, out, id, kind, expiration, second, piece);
+            let r = reassembly_store::first_fragment(rec, room, out, id, kind, expiration, second, piece);
             rebuilt_by(at, r, id)
         }
         Block::FollowOnFragment {
@@ -119,7 +119,7 @@ fn deliver(
             bytes,
         } => {
             let piece = shown(payload, bytes.start, bytes.len);
-            let r = store::follow_on_fragment(rec, room, out, id, number, last, second, piece);
+            let r = reassembly_store::follow_on_fragment(rec, room, out, id, number, last, second, piece);
             rebuilt_by(at, r, id)
         }
         _ => nothing(0, 0),
@@ -135,9 +135,9 @@ pub fn receive(
     out: &mut [u8],
     second: u64,
 ) -> Received
-    ensures { λ r. ⌜ left r (now (rec .exit)) (now (room .exit)) (now (out .exit)) ≡ delivered (now (payload .entry)) at (now (rec .entry)) (now (room .entry)) (now (out .entry)) second (readAt (now (payload .entry)) at) ⌝ }
+    ensures { λ r. ⌜ deliveryWith r (now (rec .exit)) (now (room .exit)) (now (out .exit)) ≡ delivered (now (payload .entry)) at (now (rec .entry)) (now (room .entry)) (now (out .entry)) second (readAt (now (payload .entry)) at) ⌝ }
 {
-    match reader::read_block(payload, at) {
+    match blocks_reader::read_block(payload, at) {
         Read::Block {
             block,
             size: _,

@@ -17,15 +17,15 @@ use Rattle.blocks.specs.Reading.{partOf}
 use Rattle.blocks.specs.declared.Written.{Written}
 use Rattle.blocks.specs.declared.Written.the-variants.{Refused}
 use Rattle.blocks.specs.Writing.{kindOf, fieldLength, writing, roomAfter}
-use Rattle.numbers.specs.BlockNumbers.{fieldsOf, blockNumbers}
-use Rattle.numbers.specs.BlockFields.{optionsFit, fits, blockBy, writingBy, roomBy}
+use Rattle.numbers.specs.BlockNumbers.{fieldNumbers, blockNumbers}
+use Rattle.numbers.specs.BlockFields.{optionsFit, fieldsFit, blockBy, writingBy, roomBy}
 
 -- a row is a block's numbers where its type, its part and its fields are that block's
-pub row-is : (r : List ℕ) (b x : Block) (p : Part) (n : ℕ) → b ≡ x → p ≡ partOf b → r ≡ kindOf x ∷ n ∷ p .start ∷ p .len ∷ fieldsOf x → r ≡ blockNumbers b n
+pub row-is : (r : List ℕ) (b x : Block) (p : Part) (n : ℕ) → b ≡ x → p ≡ partOf b → r ≡ kindOf x ∷ n ∷ p .start ∷ p .len ∷ fieldNumbers x → r ≡ blockNumbers b n
 row-is r b x p n q e w =
     w
-    ∙ ap (λ (y : Part). kindOf x ∷ n ∷ y .start ∷ y .len ∷ fieldsOf x) e
-    ∙ ap (λ (y : Block). kindOf y ∷ n ∷ partOf b .start ∷ partOf b .len ∷ fieldsOf y) (sym q)
+    ∙ ap (λ (y : Part). kindOf x ∷ n ∷ y .start ∷ y .len ∷ fieldNumbers x) e
+    ∙ ap (λ (y : Block). kindOf y ∷ n ∷ partOf b .start ∷ partOf b .len ∷ fieldNumbers y) (sym q)
 
 -- only Options has type 1 and twelve bytes of fields
 pub is-options : (b : Block) → (eqb (kindOf b) 1 && eqb (fieldLength b) 12) ≡ true → OneOf (0 ∷ 2 ∷ 3 ∷ 4 ∷ 5 ∷ 6 ∷ 7 ∷ 8 ∷ 9 ∷ 10 ∷ 11 ∷ 12 ∷ 13 ∷ 14 ∷ 15 ∷ 16 ∷ 17 ∷ []) (tagOf Block.the-type b) → ⊥
@@ -66,12 +66,12 @@ options-fit f e =
 
 module _ (kind : ℕ) (f bytes room : List ℕ) where
   -- a field that does not fit is refused
-  pub unfit : fits kind f ≡ false → (Refused 32 ≡ writingBy kind f bytes (length room)) × (room ≡ roomBy kind f bytes room)
+  pub unfit : fieldsFit kind f ≡ false → (Refused 32 ≡ writingBy kind f bytes (length room)) × (room ≡ roomBy kind f bytes room)
   unfolding writingBy roomBy
   unfit e = rw e (refl, refl)
 
   -- what fits is the writer's
-  pub fitting : (b : Block) (w : Written) (room′ : List ℕ) → fits kind f ≡ true → b ≡ blockBy kind f → w ≡ writing b bytes (length room) → room′ ≡ roomAfter b bytes room
+  pub fitting : (b : Block) (w : Written) (room′ : List ℕ) → fieldsFit kind f ≡ true → b ≡ blockBy kind f → w ≡ writing b bytes (length room) → room′ ≡ roomAfter b bytes room
       → (w ≡ writingBy kind f bytes (length room)) × (room′ ≡ roomBy kind f bytes room)
   unfolding writingBy roomBy
   fitting b w room′ e eb ew er = rw e (ew ∙ ap (λ (x : Block). writing x bytes (length room)) eb, er ∙ ap (λ (x : Block). roomAfter x bytes room) eb)

@@ -12,11 +12,11 @@ use Rattle.header.specs.declared.HeaderKind.the-variants.{SessionRequest, Sessi
 use Rattle.header.specs.declared.Answer.{Answer}
 use Rattle.header.specs.Kinds.{isListed}
 use Rattle.header.specs.Unmasking.{unmasked}
-use Rattle.header.specs.Reading.{readNumber, kindOf, answerOf}
-use Rattle.header.specs.RoundTrip.{Fits, Narrow, own, shown, fieldsOf}
+use Rattle.header.specs.Reading.{readNumber, headerAt, headerAnswer}
+use Rattle.header.specs.RoundTrip.{LongInWidth, BytesInWidth, own, headerOf, headerFields}
 use Rattle.header.proofs.RoundTrip.{fields-shown}
 use Rattle.header.proofs.Widths.{read-answer, read-refusal}
-use Rattle.numbers.specs.Headers.{kindNumbers, answerNumber, answerNumbers, fieldsFrom, numbersOf, Passable}
+use Rattle.numbers.specs.Headers.{kindNumbers, answerNumber, answerNumbers, fieldsFrom, numbersOf, NumbersInWidth}
 
 -- a flag's number, tested again, is the flag
 flag-again : (a : Bool) → not (eqb (cond a 1 0) 0) ≡ a
@@ -24,7 +24,7 @@ flag-again true = refl
 flag-again false = refl
 
 -- the fields that a header's numbers are
-pub fields-from : (k : HeaderKind) → fieldsFrom (kindNumbers k) ≡ fieldsOf k
+pub fields-from : (k : HeaderKind) → fieldsFrom (kindNumbers k) ≡ headerFields k
 fields-from (SessionRequest l) = refl
 fields-from (SessionCreated l) = refl
 fields-from (SessionConfirmed d n f k) = refl
@@ -35,7 +35,7 @@ fields-from (TokenRequest l) = refl
 fields-from (HolePunch l) = refl
 
 -- a header's numbers are those of its fields
-pub numbers-of : (k : HeaderKind) → kindNumbers k ≡ numbersOf (fieldsOf k)
+pub numbers-of : (k : HeaderKind) → kindNumbers k ≡ numbersOf (headerFields k)
 numbers-of (SessionRequest l) = refl
 numbers-of (SessionCreated l) = refl
 numbers-of (SessionConfirmed d n f k) = refl
@@ -46,11 +46,11 @@ numbers-of (TokenRequest l) = refl
 numbers-of (HolePunch l) = refl
 
 -- the numbers of a header that fields stand for: those that its type has
-pub numbers-shown : (f : Fields) → isListed (f .kind) ≡ true → kindNumbers (shown f) ≡ numbersOf (own f)
-numbers-shown f e = numbers-of (shown f) ∙ ap numbersOf (fields-shown f e)
+pub numbers-shown : (f : Fields) → isListed (f .kind) ≡ true → kindNumbers (headerOf f) ≡ numbersOf (own f)
+numbers-shown f e = numbers-of (headerOf f) ∙ ap numbersOf (fields-shown f e)
 
 -- numbers that can be passed are fields within their widths
-pub passable-fits : (n : List ℕ) → Passable n → Fits (fieldsFrom n)
+pub passable-fits : (n : List ℕ) → NumbersInWidth n → LongInWidth (fieldsFrom n)
 passable-fits n p = record { destination = p .destination; number = p .number; source = p .source; token = p .token }
 
 flag-passable : (f : Fields) → cond (f .immediate) 1 0 < 2 ^ 8
@@ -61,7 +61,7 @@ flag-passable f = go (f .immediate)
     go false = omega arith
 
 -- and the numbers of a header whose fields are within theirs can be passed
-pub kind-passable : (k : HeaderKind) → Fits (fieldsOf k) → Narrow (fieldsOf k) → Passable (kindNumbers k)
+pub kind-passable : (k : HeaderKind) → LongInWidth (headerFields k) → BytesInWidth (headerFields k) → NumbersInWidth (kindNumbers k)
 kind-passable k w b =
     rw (numbers-of k)
     (record {
@@ -70,7 +70,7 @@ kind-passable k w b =
       network = b .network;
       fragment = b .fragment;
       count = b .count;
-      immediate = flag-passable (fieldsOf k);
+      immediate = flag-passable (headerFields k);
       number = w .number;
       destination = w .destination;
       source = w .source;
@@ -79,13 +79,13 @@ kind-passable k w b =
 
 module _ (k1 k2 p : List ℕ) where
   -- the number that comes back is reading's
-  pub answer-number : answerNumber (answerOf k1 k2 p) ≡ readNumber k1 k2 p
+  pub answer-number : answerNumber (headerAnswer k1 k2 p) ≡ readNumber k1 k2 p
   answer-number = go (eqb (readNumber k1 k2 p) 0) refl
     where
-      go : (b : Bool) → eqb (readNumber k1 k2 p) 0 ≡ b → answerNumber (answerOf k1 k2 p) ≡ readNumber k1 k2 p
+      go : (b : Bool) → eqb (readNumber k1 k2 p) 0 ≡ b → answerNumber (headerAnswer k1 k2 p) ≡ readNumber k1 k2 p
       go true e = let z = eqb-true (readNumber k1 k2 p) 0 e in ap answerNumber (read-answer k1 k2 p z) ∙ sym z
       go false e = ap answerNumber (read-refusal k1 k2 p e)
 
   -- taken, the lent numbers are the header's
-  pub answer-numbers : (out : List ℕ) → readNumber k1 k2 p ≡ 0 → answerNumbers (answerOf k1 k2 p) out ≡ kindNumbers (kindOf (unmasked k1 k2 p))
+  pub answer-numbers : (out : List ℕ) → readNumber k1 k2 p ≡ 0 → answerNumbers (headerAnswer k1 k2 p) out ≡ kindNumbers (headerAt (unmasked k1 k2 p))
   answer-numbers out e = ap (λ (a : Answer). answerNumbers a out) (read-answer k1 k2 p e)

@@ -14,7 +14,7 @@ use Rattle.blocks.specs.Writing.{writing, roomAfter}
 use Rattle.blocks.proofs.Refused.{write-leaves, write-numbers}
 use Rattle.numbers.specs.Headers.{answerNumber, answerNumbers}
 use Rattle.numbers.specs.BlockNumbers.{readNumbers}
-use Rattle.numbers.specs.BlockFields.{fits, blockBy, writingBy, roomBy}
+use Rattle.numbers.specs.BlockFields.{fieldsFit, blockBy, writingBy, roomBy}
 
 pub header-stays : (a : Answer) (out : List ℕ) → (answerNumber a ≡ 0 → ⊥) → answerNumbers a out ≡ out
 header-stays (Header.Header k) out h = absurd (h refl)
@@ -26,7 +26,7 @@ block-stays n p out = refl
 -- a field that does not fit is 32 too
 pub room-stays : (kind : ℕ) (f bytes room : List ℕ) (m : ℕ) → writingBy kind f bytes (length room) ≡ Wrote.Refused m → OneOf (30 ∷ 31 ∷ 32 ∷ []) m × (roomBy kind f bytes room ≡ room)
 unfolding writingBy roomBy
-room-stays kind f bytes room m = go (fits kind f)
+room-stays kind f bytes room m = go (fieldsFit kind f)
   where
     go : (b : Bool) → cond b (writing (blockBy kind f) bytes (length room)) (Wrote.Refused 32) ≡ Wrote.Refused m
         → OneOf (30 ∷ 31 ∷ 32 ∷ []) m × (cond b (roomAfter (blockBy kind f) bytes room) room ≡ room)

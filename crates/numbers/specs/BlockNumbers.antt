@@ -14,29 +14,29 @@ abbrev pub few : ℕ → ℕ → ℕ → List ℕ
 few a b c = a ∷ b ∷ c ∷ 0 ∷ 0 ∷ 0 ∷ 0 ∷ 0 ∷ []
 
 -- the fields of a block
-abbrev pub fieldsOf : Block → List ℕ
-fieldsOf (Body.DateTime t) = few t 0 0
-fieldsOf (Body.Options a b c d e f g h) = a ∷ b ∷ c ∷ d ∷ e ∷ f ∷ g ∷ h ∷ []
-fieldsOf (Body.RouterInfo f g p) = few f g 0
-fieldsOf (Body.I2np k i x p) = few k i x
-fieldsOf (Body.FirstFragment k i x p) = few k i x
-fieldsOf (Body.FollowOnFragment n l i p) = few n (cond l 1 0) i
-fieldsOf (Body.Termination n r) = few n r 0
-fieldsOf (Body.Ack t n p) = few t n 0
-fieldsOf (Body.Address o p) = few o 0 0
-fieldsOf Body.RelayTagRequest = few 0 0 0
-fieldsOf (Body.RelayTag t) = few t 0 0
-fieldsOf (Body.NewToken x t) = few x t 0
-fieldsOf (Body.PathChallenge p) = few 0 0 0
-fieldsOf (Body.PathResponse p) = few 0 0 0
-fieldsOf (Body.FirstPacketNumber n) = few n 0 0
-fieldsOf (Body.Congestion f) = few f 0 0
-fieldsOf (Body.Padding p) = few 0 0 0
-fieldsOf (Body.Opaque k p) = few 0 0 0
+abbrev pub fieldNumbers : Block → List ℕ
+fieldNumbers (Body.DateTime t) = few t 0 0
+fieldNumbers (Body.Options a b c d e f g h) = a ∷ b ∷ c ∷ d ∷ e ∷ f ∷ g ∷ h ∷ []
+fieldNumbers (Body.RouterInfo f g p) = few f g 0
+fieldNumbers (Body.I2np k i x p) = few k i x
+fieldNumbers (Body.FirstFragment k i x p) = few k i x
+fieldNumbers (Body.FollowOnFragment n l i p) = few n (cond l 1 0) i
+fieldNumbers (Body.Termination n r) = few n r 0
+fieldNumbers (Body.Ack t n p) = few t n 0
+fieldNumbers (Body.Address o p) = few o 0 0
+fieldNumbers Body.RelayTagRequest = few 0 0 0
+fieldNumbers (Body.RelayTag t) = few t 0 0
+fieldNumbers (Body.NewToken x t) = few x t 0
+fieldNumbers (Body.PathChallenge p) = few 0 0 0
+fieldNumbers (Body.PathResponse p) = few 0 0 0
+fieldNumbers (Body.FirstPacketNumber n) = few n 0 0
+fieldNumbers (Body.Congestion f) = few f 0 0
+fieldNumbers (Body.Padding p) = few 0 0 0
+fieldNumbers (Body.Opaque k p) = few 0 0 0
 
 -- a block with its size field
 abbrev pub blockNumbers : Block → ℕ → List ℕ
-blockNumbers b size = kindOf b ∷ size ∷ partOf b .start ∷ partOf b .len ∷ fieldsOf b
+blockNumbers b size = kindOf b ∷ size ∷ partOf b .start ∷ partOf b .len ∷ fieldNumbers b
 
 -- the lent numbers afterwards: the block's, or as they were
 abbrev pub readNumbers : Read → List ℕ → List ℕ

@@ -54,7 +54,7 @@ numbersOf f =
     ∷ cond (isKeyed (f .kind)) 32 0 ∷ []
 
 -- lent numbers that fit the parameters of strawhub_header_write: u8, u32 and u64
-pub record Passable (n : List ℕ) : Type 0 where
+pub record NumbersInWidth (n : List ℕ) : Type 0 where
   pub kind : getD n 0 0 < 2 ^ 8
   pub version : getD n 1 0 < 2 ^ 8
   pub network : getD n 2 0 < 2 ^ 8

@@ -8,7 +8,7 @@ use types.Run.{OneOf}
 use Rattle.header.proofs.Calls.{write-refused}
 use Rattle.header.proofs.Refused as Header
 use Rattle.blocks.proofs.Refused as Blocks
-use Rattle.listing.proofs.Refused as Listing
+use Rattle.blocks_listing.proofs.Refused as Listing
 use Rattle.acks.proofs.Refused as Acks
 use Rattle.reassembly.specs.Calls.{After, after, firstCall, followOnCall}
 use Rattle.reassembly.specs.Careful.{Careful}

@@ -10,23 +10,23 @@ use Rattle.wire.specs.Numbers.{little, big, bigAt}
 use Rattle.blocks.specs.declared.Read.the-variants as Got
 use Rattle.blocks.specs.Extent.{followOn, takenAt, extentAt}
 use Rattle.blocks.specs.Reading.{blockAt, readAt}
-use Rattle.reassembly.specs.Calls.{After, bare, isShort, badSize, offNumber}
+use Rattle.reassembly.specs.Calls.{After, bare, lentShort, badSize, offNumber}
 use Rattle.reassembly.proofs.Branches.{follow-51}
 use Rattle.messages.specs.declared.Received.{Received}
-use Rattle.messages.specs.Delivery.{Left, nothing, rebuiltBy, rebuilt, deliveredBy, delivered}
+use Rattle.messages.specs.Delivery.{Delivery, nothing, rebuiltBy, rebuilt, deliveredBy, delivered}
 use Rattle.messages.proofs.Refused.{nothing-number, nothing-start}
-use Rattle.listing.specs.Listing.{no, entry, filled}
-use Rattle.acks.specs.Recorded.{short}
-use Rattle.acks.specs.Reporting.{refusal, silent}
-use Rattle.outcomes.specs.Listings.{outcome}
+use Rattle.blocks_listing.specs.Listing.{no, entry, entriesAfter}
+use Rattle.acks.specs.Recorded.{trackerShort}
+use Rattle.acks.specs.Reporting.{refusedReport, silent}
+use Rattle.numbers_outcomes.specs.Listings.{listOutcome}
 use Rattle.numbers.specs.Headers.{answerNumbers}
 use Rattle.numbers.specs.BlockNumbers.{readNumbers}
-use Rattle.numbers.specs.BlockFields.{fits, writingBy, roomBy}
+use Rattle.numbers.specs.BlockFields.{fieldsFit, writingBy, roomBy}
 use Rattle.numbers.proofs.Refused as Numbers
-use Rattle.outcomes.specs.Outcomes.{written}
-use Rattle.outcomes.specs.Trackers.{newAnswer, newRecord, reportNumbers}
-use Rattle.outcomes.specs.Deliveries.{deliveryOutcome, deliveryNumbers, deliveredAt}
-use Rattle.outcomes.proofs.Refused as Calls
+use Rattle.numbers_outcomes.specs.Outcomes.{writeOutcome}
+use Rattle.numbers_outcomes.specs.Trackers.{newAnswer, newRecord, reportNumbers}
+use Rattle.numbers_outcomes.specs.Deliveries.{deliveryOutcome, deliveryNumbers, deliveredAt}
+use Rattle.numbers_outcomes.proofs.Refused as Calls
 use Rattle.promises.specs.Demand1.{Refuses, StoreRefuses}
 use Rattle.promises.specs.Demand1Calls.{Demand1Calls}
 use Rattle.promises.proofs.Demand1.{demand1}
@@ -47,7 +47,7 @@ told s at rec room out second lent h = (Calls.delivery-number r, Calls.delivery-
     done e = h .1 (Calls.delivery-number r ∙ e)
 
     place : r .start ≡ at
-    place = ap (λ (x : Left). x .received .start) (demand1 .delivery s at rec room out second (kept, done) .1) ∙ nothing-start (r .number) at
+    place = ap (λ (x : Delivery). x .received .start) (demand1 .delivery s at rec room out second (kept, done) .1) ∙ nothing-start (r .number) at
 
 pub demand1-calls : Demand1Calls
 demand1-calls =
@@ -79,33 +79,33 @@ block-refused = demand1-calls .block-numbers (Got.Refused 8 0) lent (is-refusal 
 abbrev wide : List ℕ
 wide = 65536 ∷ []
 
-pub unfit : written (writingBy 13 wide lent 3) .number ≡ 32
-unfolding writingBy fits
+pub unfit : writeOutcome (writingBy 13 wide lent 3) .number ≡ 32
+unfolding writingBy fieldsFit
 unfit = refl
 
 pub unfit-stays : roomBy 13 wide lent lent ≡ lent
-unfit-stays = demand1-calls .block-room 13 wide lent lent (is-refusal (written (writingBy 13 wide lent 3) .number) 31 unfit) .1
+unfit-stays = demand1-calls .block-room 13 wide lent lent (is-refusal (writeOutcome (writingBy 13 wide lent 3) .number) 31 unfit) .1
 
-pub list-refused : filled (no 8 0) (entry 9 9 9 ∷ []) ≡ entry 9 9 9 ∷ []
-unfolding outcome
+pub list-refused : entriesAfter (no 8 0) (entry 9 9 9 ∷ []) ≡ entry 9 9 9 ∷ []
+unfolding listOutcome
 list-refused = demand1-calls .records (no 8 0) (entry 9 9 9 ∷ []) (is-refusal 8 7 refl)
 
 pub short-tracker : newAnswer lent ≡ 59
-unfolding newAnswer short
+unfolding newAnswer trackerShort
 short-tracker = refl
 
 pub tracker-stays : newRecord lent ≡ lent
 tracker-stays = demand1-calls .new-tracker lent (is-refusal (newAnswer lent) 58 short-tracker) .1
 
 pub report-refused : reportNumbers silent lent ≡ lent
-unfolding refusal
+unfolding refusedReport
 report-refused = demand1-calls .report silent lent lent (is-refusal 41 40 refl) .0
 
 -- the block at 3, whose piece the store refuses with 51, on every record and room that are long enough: the place is 3
 abbrev number-0 : List ℕ
 number-0 = 15 ∷ 0 ∷ 0 ∷ 5 ∷ 0 ∷ 6 ∷ 0 ∷ 0 ∷ 0 ∷ 0 ∷ 1 ∷ 7 ∷ []
 
-module _ (rec room out : List ℕ) (long : isShort rec room ≡ false) (second : ℕ) where
+module _ (rec room out : List ℕ) (long : lentShort rec room ≡ false) (second : ℕ) where
   pub told-51 : deliveredAt number-0 3 rec room out second .received ≡ nothing 51 3
   unfolding delivered deliveredBy rebuilt rebuiltBy readAt blockAt extentAt takenAt followOn bigAt big little part badSize offNumber bare
   told-51 =

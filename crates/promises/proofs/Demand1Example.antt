@@ -10,28 +10,28 @@ use Rattle.wire.specs.Numbers.{Bytes, little, littleAt, big, bigAt}
 use Rattle.header.specs.declared.Fields.{Fields}
 use Rattle.header.specs.declared.Answer.the-variants as Header
 use Rattle.header.specs.Kinds.{isListed}
-use Rattle.header.specs.Reading.{readNumber, answerOf, leftBy}
-use Rattle.header.specs.Writing.{writeNumber, leftByWrite}
+use Rattle.header.specs.Reading.{readNumber, registerAnswer, packetAfterRead}
+use Rattle.header.specs.Writing.{writeNumber, packetAfterWrite}
 use Rattle.blocks.specs.declared.Block.the-variants as Body
 use Rattle.blocks.specs.declared.Read.the-variants as Got
 use Rattle.blocks.specs.declared.Written.the-variants as Wrote
 use Rattle.blocks.specs.Extent.{address, takenAt, extentAt}
 use Rattle.blocks.specs.Reading.{readAt}
-use Rattle.listing.specs.declared.Entry.{Entry}
-use Rattle.listing.specs.Listing.{no, entry, blocksFrom, blocksOf, listing, filled}
+use Rattle.blocks_listing.specs.declared.Entry.{Entry}
+use Rattle.blocks_listing.specs.Listing.{no, entry, blocksFrom, blocksOf, listing, entriesAfter}
 use Rattle.blocks.specs.Writing.{faulty, writing, roomAfter}
-use Rattle.acks.specs.Tracking.{fresh, mark, answerOf as trackerAnswer, registerOf}
+use Rattle.acks.specs.Tracking.{fresh, mark, registerAnswer as trackerAnswer, registerOf}
 use Rattle.acks.specs.History.{answerTo}
-use Rattle.acks.specs.Reporting.{refusal, reportOf, ackInfo}
-use Rattle.acks.specs.Recorded.{short, trackerAt, registerThere, recordAfter, reportThere}
+use Rattle.acks.specs.Reporting.{refusedReport, reportOf, ackInfo}
+use Rattle.acks.specs.Recorded.{trackerShort, trackerAt, registerThere, recordAfter, reportThere}
 use Rattle.acks.specs.AckBlocks.{ackWriting, ackRoom}
-use Rattle.acks.specs.Runs.{whole, total}
+use Rattle.acks.specs.Runs.{wholePairs, runSum}
 use Rattle.acks.specs.Expanding.{expandAnswer, expandOf, listAfter}
 use Rattle.acks.proofs.Cases.{case-j}
 use Rattle.reassembly.specs.declared.Label.{Label}
-use Rattle.reassembly.specs.Calls.{After, after, bare, isShort, badSize, offNumber, firstCall, followOnCall, renewal, renewed}
+use Rattle.reassembly.specs.Calls.{After, after, bare, lentShort, badSize, offNumber, firstCall, followOnCall, renewal, renewed}
 use Rattle.reassembly.proofs.Branches.{first-50, follow-51}
-use Rattle.messages.specs.Delivery.{left, nothing, delivered}
+use Rattle.messages.specs.Delivery.{deliveryWith, nothing, delivered}
 use Rattle.promises.specs.Demand1.{StoreRefuses}
 use Rattle.promises.proofs.Demand1.{demand1}
 use Rattle.promises.proofs.Demand1Calls.{is-refusal}
@@ -43,11 +43,11 @@ store-refusal n k e h = (λ z. omega arith, λ z. omega arith)
 abbrev three : List ℕ
 three = 1 ∷ 2 ∷ 3 ∷ []
 
-pub no-packet : answerOf three three three ≡ Header.Refused 20
-unfolding answerOf readNumber
+pub no-packet : registerAnswer three three three ≡ Header.Refused 20
+unfolding registerAnswer readNumber
 no-packet = refl
 
-pub packet-stays : leftBy three three three ≡ three
+pub packet-stays : packetAfterRead three three three ≡ three
 packet-stays = demand1 .header-read three three three 20 no-packet .1
 
 -- type 3 is no header's: 21
@@ -58,7 +58,7 @@ pub no-header : writeNumber odd 3 ≡ 21
 unfolding writeNumber isListed
 no-header = refl
 
-pub unwritten-stays : leftByWrite three three odd three ≡ three
+pub unwritten-stays : packetAfterWrite three three odd three ≡ three
 unwritten-stays = demand1 .header-written three three odd three (is-refusal (writeNumber odd 3) 20 no-header) .1
 
 -- (d): 8 at 0
@@ -80,7 +80,7 @@ pub no-record : listing 1 two-blocks ≡ no 10 3
 unfolding listing blocksOf blocksFrom extentAt takenAt bigAt big little part
 no-record = refl
 
-pub list-stays : filled (listing 1 two-blocks) one-record ≡ one-record
+pub list-stays : entriesAfter (listing 1 two-blocks) one-record ≡ one-record
 list-stays = demand1 .blocks-listed two-blocks one-record 10 3 no-record .1
 
 -- a block of three bytes, and a room of two: 30
@@ -104,7 +104,7 @@ zeros (suc n) zero = omega arith
 zeros (suc n) (suc i) = zeros n i
 
 pub too-high : registerThere (replicate 259 0) 256 ≡ 40
-unfolding registerThere short registerOf trackerAnswer answerTo trackerAt littleAt little part
+unfolding registerThere trackerShort registerOf trackerAnswer answerTo trackerAt littleAt little part
 too-high = refl
 
 pub record-stays : recordAfter (replicate 259 0) 256 ≡ replicate 259 0
@@ -112,11 +112,11 @@ record-stays = demand1 .registered-there (replicate 259 0) 256 (zeros 259) (is-r
 
 -- nothing seen, nothing reported: 41
 pub no-report : reportThere (replicate 259 0) .number ≡ 41
-unfolding reportThere short trackerAt ackInfo reportOf mark refusal littleAt little part
+unfolding reportThere trackerShort trackerAt ackInfo reportOf mark refusedReport littleAt little part
 no-report = refl
 
 pub no-ack : ackWriting (reportThere (replicate 259 0)) 3 ≡ Wrote.Refused 41
-unfolding ackWriting reportThere short trackerAt ackInfo reportOf mark refusal littleAt little part
+unfolding ackWriting reportThere trackerShort trackerAt ackInfo reportOf mark refusedReport littleAt little part
 no-ack = refl
 
 pub ack-room-stays : ackRoom (reportThere (replicate 259 0)) three ≡ three
@@ -124,7 +124,7 @@ ack-room-stays = demand1 .ack-written .1 (reportThere (replicate 259 0)) three 4
 
 -- four numbers below 3: 44
 pub below-0 : expandOf 3 4 [] 2 .number ≡ 44
-unfolding expandOf expandAnswer whole total
+unfolding expandOf expandAnswer wholePairs runSum
 below-0 = refl
 
 pub numbers-stay : listAfter 3 4 [] two ≡ two
@@ -139,7 +139,7 @@ pub unrenewed-stays : renewed two ≡ two
 unrenewed-stays = demand1 .store-renewed two (is-refusal (renewal two) 58 no-store) .1
 
 -- on every record and room that are long enough, an empty piece is 50, and a follow-on of number 0 is 51
-module _ (rec room out : List ℕ) (long : isShort rec room ≡ false) (second : ℕ) where
+module _ (rec room out : List ℕ) (long : lentShort rec room ≡ false) (second : ℕ) where
   abbrev label : Label
   label = record { id = 1; number = 0; last = false; kind = 20; expires = 9 }
 
@@ -166,7 +166,7 @@ module _ (rec room out : List ℕ) (long : isShort rec room ≡ false) (second :
   unfolding delivered nothing readAt extentAt takenAt address bigAt big little part
   no-delivery = refl
 
-  pub delivery-stays : delivered bad-address 0 rec room out second (readAt bad-address 0) ≡ left (nothing (delivered bad-address 0 rec room out second (readAt bad-address 0) .received .number) 0) rec room out
+  pub delivery-stays : delivered bad-address 0 rec room out second (readAt bad-address 0) ≡ deliveryWith (nothing (delivered bad-address 0 rec room out second (readAt bad-address 0) .received .number) 0) rec room out
   delivery-stays =
       demand1 .delivery bad-address 0 rec room out second
       (store-refusal (delivered bad-address 0 rec room out second (readAt bad-address 0) .received .number) 7 no-delivery (omega arith)) .1

@@ -13,22 +13,22 @@ use Rattle.blocks.specs.Reading.{bytesAt}
 use Rattle.acks.specs.declared.Tracker.{Tracker}
 use Rattle.acks.specs.declared.AckInfo.{AckInfo}
 use Rattle.acks.specs.History.{Packets, answerTo, among, received, highestSeen, newest}
-use Rattle.acks.specs.Tracking.{held, registerOf}
+use Rattle.acks.specs.Tracking.{isDuplicate, registerOf}
 use Rattle.acks.specs.Reporting.{silent, ackInfo, pairBytes}
-use Rattle.acks.specs.Recorded.{short, trackerAt, registerThere, recordAll, duplicateThere, reportThere}
+use Rattle.acks.specs.Recorded.{trackerShort, trackerAt, registerThere, recordAll, duplicateThere, reportThere}
 use Rattle.acks.specs.AckBlocks.{ackWriting, ackRoom}
 use Rattle.acks.proofs.Faithful.{Faithful, pairs-cut}
 use Rattle.acks.proofs.Histories.{registered-there, duplicate-there, reported-there, tracked, names-newest}
 use Rattle.acks.proofs.InPlace.{in-place, in-place-long, in-place-behind, in-place-small}
 use Rattle.acks.proofs.Sent.{is-written, is-read}
 use Rattle.acks.proofs.Refused.{silent-is-41, silent-unwritten, ack-leaves}
-use Rattle.outcomes.specs.Outcomes.{outcome, written}
-use Rattle.outcomes.specs.Trackers.{newRecord, reportPairs}
-use Rattle.outcomes.proofs.TrackerLaws.{new-zeros, report-lent}
-use Rattle.outcomes.proofs.Refused.{report-stays}
-use Rattle.promises.specs.Acks.{after, reportAfter}
+use Rattle.numbers_outcomes.specs.Outcomes.{outcome, writeOutcome}
+use Rattle.numbers_outcomes.specs.Trackers.{newRecord, reportPairs}
+use Rattle.numbers_outcomes.proofs.TrackerLaws.{new-zeros, report-lent}
+use Rattle.numbers_outcomes.proofs.Refused.{report-stays}
+use Rattle.promises.specs.Acks.{trackerAfter, reportAfter}
 use Rattle.promises.specs.Demand2.{ExpandsTo}
-use Rattle.promises.specs.Demand2Calls.{TrackerStarts, Unreported, Reported, Sent, OutcomeOfTracker, Demand2Calls}
+use Rattle.promises.specs.Demand2Calls.{TrackerStarts, Unreported, Reported, Sent, TrackerTells, Demand2Calls}
 use Rattle.promises.proofs.Acks.{answered, duplicates-are-newest}
 use Rattle.promises.proofs.Demand1Calls.{is-refusal}
 use Rattle.promises.proofs.Demand2.{demand2, report-faithful, mixed, mixed-received, mixed-newest}
@@ -42,7 +42,7 @@ unreported r out pairs room e =
     let n : r .number ≡ 41 = ap (λ (x : AckInfo). x .number) e ∙ silent-is-41 in
     let stays = report-stays r out pairs (is-refusal (r .number) 40 n) in
     let w = ap (λ (x : AckInfo). ackWriting x (length room)) e ∙ silent-unwritten (length room) in
-    record { is-41 = n; numbers-stay = stays .0; pairs-stay = stays .1; block-41 = ap written w; room-stays = ack-leaves r room 41 w }
+    record { is-41 = n; numbers-stay = stays .0; pairs-stay = stays .1; block-41 = ap writeOutcome w; room-stays = ack-leaves r room 41 w }
 
 -- a faithful one, of a highest number of four bytes
 module _ (calls : List ℕ) (r : AckInfo) (f : Faithful (highestSeen calls) (among (received calls)) r) (small : highestSeen calls < 256 ^ 4) where
@@ -67,7 +67,7 @@ module _ (calls : List ℕ) (r : AckInfo) (f : Faithful (highestSeen calls) (amo
       let holds : 8 + length (pairBytes r) ≤ length room = omega (arith, f .few, big) in
       let b = is-read r room (f .number-is) (f .even) (f .few) holds (omega (arith, f .through-is, small)) in
       record {
-        wrote = ap written (is-written r room (f .number-is) (f .even) (f .few) holds) ∙ ap (λ (n : ℕ). outcome 0 (8 + n)) (f .sized);
+        wrote = ap writeOutcome (is-written r room (f .number-is) (f .even) (f .few) holds) ∙ ap (λ (n : ℕ). outcome 0 (8 + n)) (f .sized);
         read =
             b .0
             ∙ ap (λ (n : ℕ). Got.Block (Body.Ack (r .through) (r .count) (bytesAt 8 n)) (5 + n) (8 + n)) (f .sized)
@@ -76,14 +76,14 @@ module _ (calls : List ℕ) (r : AckInfo) (f : Faithful (highestSeen calls) (amo
       }
 
 -- a record that holds the tracker of a history
-module _ (calls left : List ℕ) (is : trackerAt left ≡ after calls) (long : short left ≡ false) where
+module _ (calls left : List ℕ) (is : trackerAt left ≡ trackerAfter calls) (long : trackerShort left ≡ false) where
   registers : (n : ℕ) → registerThere left n ≡ answerTo (highestSeen calls) (among (received calls)) n
   registers n = registered-there left long n ∙ ap (λ (t : Tracker). registerOf t n .answer) is ∙ answered calls n
 
   duplicates : (n : ℕ) → duplicateThere left n ≡ cond (among (newest calls) n) 1 0
   duplicates n =
       duplicate-there left long n
-      ∙ ap (λ (t : Tracker). cond (held (t .highest) (t .marks) n) 1 0) is
+      ∙ ap (λ (t : Tracker). cond (isDuplicate (t .highest) (t .marks) n) 1 0) is
       ∙ ap (λ (b : Bool). cond b 1 0) (duplicates-are-newest calls n)
 
   report : reportThere left ≡ reportAfter calls
@@ -95,8 +95,8 @@ module _ (calls left : List ℕ) (is : trackerAt left ≡ after calls) (long : s
 pub demand2-calls : Demand2Calls
 demand2-calls rec calls zeros packets =
     let left : List ℕ = recordAll rec calls in
-    let is : trackerAt left ≡ after calls = in-place rec zeros calls packets in
-    let long : short left ≡ false = in-place-long rec zeros calls packets in
+    let is : trackerAt left ≡ trackerAfter calls = in-place rec zeros calls packets in
+    let long : trackerShort left ≡ false = in-place-long rec zeros calls packets in
     let small : highestSeen calls < 256 ^ 4 = omega (arith, tracked calls .same, in-place-small rec zeros calls packets) in
     record {
       holds = is;
@@ -116,7 +116,7 @@ mixed-packets =
 abbrev begun : List ℕ
 begun = newRecord (replicate 300 7)
 
-pub example-calls : OutcomeOfTracker begun mixed (recordAll begun mixed)
+pub example-calls : TrackerTells begun mixed (recordAll begun mixed)
 example-calls = demand2-calls begun mixed (tracker-starts .1 (replicate 300 7) (omega arith)) mixed-packets
 
 some : 0 < length (received mixed)

@@ -12,7 +12,7 @@ use lib.Seq.{getD-set-same, getD-set-other, ext-getD}
 use borrow.Author.Tests.{eq-eqb, ne-eqb}
 use Rattle.reassembly.specs.Store.{Message, Store, empty}
 use Rattle.reassembly.proofs.Stores.{none≢some, empty-at}
-use Rattle.promises.specs.Demand3.{Cut, Within, noCut, Event, deliver, tidy, Tally, noTally, allMarks, begun, done, isOpen, marked, untouched, start, note, count, Allowed, Orderly, Schedule, dueOne, due, act, saidOf, said, final, timesOne, times, Demand3}
+use Rattle.promises.specs.Demand3.{Cut, Within, noCut, Event, deliver, sweepAt, Tally, noTally, allMarks, begun, done, isOpen, marked, untouched, start, note, count, Allowed, Orderly, Schedule, dueOne, due, act, saidOf, said, storeAfter, timesOne, times, Demand3}
 use Rattle.promises.proofs.Demand3Marks.{any-replicate, set-mark}
 use Rattle.promises.proofs.Demand3Invariant.{cutAt, tallyAt, closed-of, Owned, Inv, delivered, tidied}
 
@@ -59,14 +59,14 @@ end-empty cs ts s v all = ext-getD none s empty (v .slots) (λ k h. free k (getD
 module _ (cap : ℕ) (room : 65535 ≤ cap) (cs : List Cut) (within : (c : ℕ) → c < length cs → Within (cutAt cs c)) where
   one-event : (ts : List Tally) (s : Store) → Inv cs ts s → (e : Event) → Allowed cs ts e → Orderly cs (note ts e)
       → (saidOf (act cap cs s e) ≡ dueOne cs ts e) × Inv cs (note ts e) (act cap cs s e .store)
-  one-event ts s v (deliver c i now) a o = delivered cs within ts s v c i now (a .0) (a .1) (a .2) o cap room
-  one-event ts s v (tidy now) a o = tidied cap cs ts s v now a
+  one-event ts s v (deliver c i second) a o = delivered cs within ts s v c i second (a .0) (a .1) (a .2) o cap room
+  one-event ts s v (sweepAt second) a o = tidied cap cs ts s v second a
 
-  runs : (es : List Event) (ts : List Tally) (s : Store) → Inv cs ts s → Schedule cs ts es → (said cap cs s es ≡ due cs ts es) × (final cap cs s es ≡ empty)
+  runs : (es : List Event) (ts : List Tally) (s : Store) → Inv cs ts s → Schedule cs ts es → (said cap cs s es ≡ due cs ts es) × (storeAfter cap cs s es ≡ empty)
   runs [] ts s v q = (refl, end-empty cs ts s v q)
   runs (e ∷ es) ts s v q =
       let a : (saidOf (act cap cs s e) ≡ dueOne cs ts e) × Inv cs (note ts e) (act cap cs s e .store) = one-event ts s v e (q .0) (q .1) in
-      let ih : (said cap cs (act cap cs s e .store) es ≡ due cs (note ts e) es) × (final cap cs (act cap cs s e .store) es ≡ empty) = runs es (note ts e) (act cap cs s e .store) (a .1) (q .2) in
+      let ih : (said cap cs (act cap cs s e .store) es ≡ due cs (note ts e) es) × (storeAfter cap cs (act cap cs s e .store) es ≡ empty) = runs es (note ts e) (act cap cs s e .store) (a .1) (q .2) in
       (rw (a .0, ih .0) refl, ih .1)
 
 -- A message counts as done after an event exactly if it was done before or came out at it.
@@ -76,20 +76,20 @@ bit b = cond b 1 0
 once-event : (cs : List Cut) (ts : List Tally) (c : ℕ) → c < length ts → (e : Event) → Allowed cs ts e
     → timesOne c e (dueOne cs ts e) + bit (done (tallyAt ts c)) ≡ bit (done (tallyAt (note ts e) c))
 unfolding bit dueOne note
-once-event cs ts c h (tidy now) a = omega arith
-once-event cs ts c h (deliver d i now) a = go (ℕ-discrete d c)
+once-event cs ts c h (sweepAt second) a = omega arith
+once-event cs ts c h (deliver d i second) a = go (ℕ-discrete d c)
   where
-    other : d ≢ c → tallyAt (set ts d (marked (tallyAt ts d) i now)) c ≡ tallyAt ts c
-    other q = getD-set-other ts d c (marked (tallyAt ts d) i now) noTally (λ z. q (sym z))
+    other : d ≢ c → tallyAt (set ts d (marked (tallyAt ts d) i second)) c ≡ tallyAt ts c
+    other q = getD-set-other ts d c (marked (tallyAt ts d) i second) noTally (λ z. q (sym z))
 
-    mine : d ≡ c → tallyAt (set ts d (marked (tallyAt ts d) i now)) c ≡ marked (tallyAt ts d) i now
-    mine q = rw q (getD-set-same ts c (marked (tallyAt ts c) i now) noTally h)
+    mine : d ≡ c → tallyAt (set ts d (marked (tallyAt ts d) i second)) c ≡ marked (tallyAt ts d) i second
+    mine q = rw q (getD-set-same ts c (marked (tallyAt ts c) i second) noTally h)
 
-    repeated : getD (tallyAt ts d .marks) i false ≡ true → done (marked (tallyAt ts d) i now) ≡ false
+    repeated : getD (tallyAt ts d .marks) i false ≡ true → done (marked (tallyAt ts d) i second) ≡ false
     repeated e = unfold done marked in (ap allMarks (set-mark (tallyAt ts d .marks) i e) ∙ (unfold done in a .2))
 
-    cases : d ≡ c → (b : Bool) → getD (tallyAt ts d .marks) i false ≡ b → (z : Bool) → done (marked (tallyAt ts d) i now) ≡ z
-        → timesOne c (deliver d i now) (dueOne cs ts (deliver d i now)) + bit (done (tallyAt ts c)) ≡ bit (done (tallyAt (note ts (deliver d i now)) c))
+    cases : d ≡ c → (b : Bool) → getD (tallyAt ts d .marks) i false ≡ b → (z : Bool) → done (marked (tallyAt ts d) i second) ≡ z
+        → timesOne c (deliver d i second) (dueOne cs ts (deliver d i second)) + bit (done (tallyAt ts c)) ≡ bit (done (tallyAt (note ts (deliver d i second)) c))
     cases q true e z f =
         let n : done (tallyAt ts c) ≡ false = ap (λ (x : ℕ). done (tallyAt ts x)) (sym q) ∙ a .2 in
         rw (mine q, eq-eqb d c q, e, n, repeated e) refl
@@ -100,14 +100,14 @@ once-event cs ts c h (deliver d i now) a = go (ℕ-discrete d c)
         let n : done (tallyAt ts c) ≡ false = ap (λ (x : ℕ). done (tallyAt ts x)) (sym q) ∙ a .2 in
         rw (mine q, eq-eqb d c q, e, n, f) refl
 
-    go : Dec (d ≡ c) → timesOne c (deliver d i now) (dueOne cs ts (deliver d i now)) + bit (done (tallyAt ts c)) ≡ bit (done (tallyAt (note ts (deliver d i now)) c))
-    go (yes q) = cases q (getD (tallyAt ts d .marks) i false) refl (done (marked (tallyAt ts d) i now)) refl
+    go : Dec (d ≡ c) → timesOne c (deliver d i second) (dueOne cs ts (deliver d i second)) + bit (done (tallyAt ts c)) ≡ bit (done (tallyAt (note ts (deliver d i second)) c))
+    go (yes q) = cases q (getD (tallyAt ts d .marks) i false) refl (done (marked (tallyAt ts d) i second)) refl
     go (no q) = rw (other q, ne-eqb d c q) (omega arith)
 
 length-note : (ts : List Tally) (e : Event) → length (note ts e) ≡ length ts
 unfolding note
-length-note ts (deliver c i now) = length-set ts c (marked (tallyAt ts c) i now)
-length-note ts (tidy now) = refl
+length-note ts (deliver c i second) = length-set ts c (marked (tallyAt ts c) i second)
+length-note ts (sweepAt second) = refl
 
 once-due : (cs : List Cut) (c : ℕ) → c < length cs → (es : List Event) (ts : List Tally) → length ts ≡ length cs → Schedule cs ts es
     → times c es (due cs ts es) + bit (done (tallyAt ts c)) ≡ 1
@@ -130,7 +130,7 @@ untouched-undone c w = go (length (c .pieces)) (w .two)
 pub demand3 : Demand3
 unfolding bit
 demand3 cap room cs within es q =
-    let r : (said cap cs empty es ≡ due cs (start cs) es) × (final cap cs empty es ≡ empty) = runs cap room cs within es (start cs) empty (start-inv cs) q in
+    let r : (said cap cs empty es ≡ due cs (start cs) es) × (storeAfter cap cs empty es ≡ empty) = runs cap room cs within es (start cs) empty (start-inv cs) q in
     record {
       as-due = r .0;
       once = λ c h.

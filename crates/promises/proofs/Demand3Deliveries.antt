@@ -14,42 +14,42 @@ use Rattle.blocks.specs.Writing.{sizeOf}
 use Rattle.blocks.proofs.Puts.{is-length}
 use Rattle.blocks.proofs.Faults.{first-whole, follow-on-whole}
 use Rattle.blocks.proofs.WriteThenRead.{write-then-read}
-use Rattle.reassembly.specs.Store.{Piece, first, follow, Store, Whole, step}
+use Rattle.reassembly.specs.Store.{Piece, first, follow, Store, Rebuilt, step}
 use Rattle.reassembly.specs.Stands.{stands, Made, laidOut}
 use Rattle.reassembly.proofs.Stores.{step-enough}
 use Rattle.reassembly.proofs.Sweeps.{sweep-stands, sweep-made}
 use Rattle.messages.specs.declared.Received.{Received}
-use Rattle.messages.specs.Delivery.{Left, deliveredBy}
+use Rattle.messages.specs.Delivery.{Delivery, deliveredBy}
 use Rattle.messages.specs.Shown.{receivedFor, OfStore}
 use Rattle.messages.proofs.OfStore.{first-of-store, follow-of-store, read-delivers, received-kept, received-refused, received-whole}
-use Rattle.outcomes.specs.declared.Outcome.{Outcome}
-use Rattle.outcomes.specs.Outcomes.{outcome}
-use Rattle.outcomes.specs.Deliveries.{deliveryOutcome, deliveryNumbers, deliveredAt}
-use Rattle.outcomes.proofs.DeliveryLaws.{told-kept, told-refused, told-finished}
-use Rattle.promises.specs.Demand3.{Cut, pieceOf, cutFrom, noCut, Event, deliver, tidy, Tally, noTally, done, marked, start, note, Said, dueOne, due, times, act, saidOf, said, final, Outcome as Result}
+use Rattle.numbers_outcomes.specs.declared.Outcome.{Fulfilled}
+use Rattle.numbers_outcomes.specs.Outcomes.{outcome}
+use Rattle.numbers_outcomes.specs.Deliveries.{deliveryOutcome, deliveryNumbers, deliveredAt}
+use Rattle.numbers_outcomes.proofs.DeliveryLaws.{told-kept, told-refused, told-finished}
+use Rattle.promises.specs.Demand3.{Cut, pieceOf, cutFrom, noCut, Event, deliver, sweepAt, Tally, noTally, done, marked, start, note, Said, dueOne, due, times, act, saidOf, said, storeAfter, Fulfilled as Result}
 use Rattle.promises.specs.Demand3Calls.{secondOf, LongEnough}
-use Rattle.promises.specs.Demand3Deliveries.{Carries, Loan, HandedOne, Handed, Tells, handed, tellings, lastRec, lastRoom, outcomeDue, toldOf, toldDue, tellsDue, allDue, Demand3Deliveries, WrittenIsHanded}
+use Rattle.promises.specs.Demand3Deliveries.{PieceAt, Loan, HandedOne, Handed, Tells, handed, tellings, lastRec, lastRoom, outcomeDue, toldOf, toldDue, tellsDue, allDue, Demand3Deliveries, WrittenIsHanded}
 use Rattle.promises.proofs.Demand3.{demand3}
 
 -- the id of a piece
 abbrev idOf : Piece → ℕ
-idOf (first id typ expires bytes) = id
+idOf (first id kind expires bytes) = id
 idOf (follow id number final bytes) = id
 
 abbrev Narrowly : Piece → Type 0
-Narrowly (first id typ expires bytes) = (id < 4294967296) × (expires < 4294967296)
+Narrowly (first id kind expires bytes) = (id < 4294967296) × (expires < 4294967296)
 Narrowly (follow id number final bytes) = id < 4294967296
 
 -- the block at a place that has a piece delivers what the store's step answers to the piece
-carried : (s : List ℕ) (at : ℕ) (rec room out : List ℕ) (p : Piece) (second : ℕ) → Carries s at p → Narrowly p → second < 18446744073709551616 → Made rec room
+carried : (s : List ℕ) (at : ℕ) (rec room out : List ℕ) (p : Piece) (second : ℕ) → PieceAt s at p → Narrowly p → second < 18446744073709551616 → Made rec room
     → OfStore s at (idOf p) out (deliveredAt s at rec room out second) (step (length out) (stands rec room) p second)
-carried s at rec room out (first id typ expires bytes) second h w hs m =
-    subst (λ (x : Left). OfStore s at id out x (step (length out) (stands rec room) (first id typ expires bytes) second))
-    (sym (read-delivers s at rec room out second (Body.FirstFragment typ id expires (h .body)) (h .size) (h .next) (h .read)))
-    (subst (λ (v : List ℕ). OfStore s at id out (deliveredBy s at rec room out second (Body.FirstFragment typ id expires (h .body))) (step (length out) (stands rec room) (first id typ expires v) second))
-    (h .same-bytes) (first-of-store s at rec room out second typ id expires (h .body) m (w .0) (w .1) hs))
+carried s at rec room out (first id kind expires bytes) second h w hs m =
+    subst (λ (x : Delivery). OfStore s at id out x (step (length out) (stands rec room) (first id kind expires bytes) second))
+    (sym (read-delivers s at rec room out second (Body.FirstFragment kind id expires (h .body)) (h .size) (h .next) (h .read)))
+    (subst (λ (v : List ℕ). OfStore s at id out (deliveredBy s at rec room out second (Body.FirstFragment kind id expires (h .body))) (step (length out) (stands rec room) (first id kind expires v) second))
+    (h .same-bytes) (first-of-store s at rec room out second kind id expires (h .body) m (w .0) (w .1) hs))
 carried s at rec room out (follow id number final bytes) second h w hs m =
-    subst (λ (x : Left). OfStore s at id out x (step (length out) (stands rec room) (follow id number final bytes) second))
+    subst (λ (x : Delivery). OfStore s at id out x (step (length out) (stands rec room) (follow id number final bytes) second))
     (sym (read-delivers s at rec room out second (Body.FollowOnFragment number final id (h .body)) (h .size) (h .next) (h .read)))
     (subst (λ (v : List ℕ). OfStore s at id out (deliveredBy s at rec room out second (Body.FollowOnFragment number final id (h .body))) (step (length out) (stands rec room) (follow id number final v) second))
     (h .same-bytes) (follow-of-store s at rec room out second number final id (h .body) m w hs))
@@ -66,19 +66,19 @@ piece-narrow c (suc i) a b = a
 data Calm : Said → Type 0 where
   repeated : Calm (record { number = 54; out = none })
   kept : Calm (record { number = 0; out = none })
-  finished : (w : Whole) → Calm (record { number = 60; out = some w })
+  finished : (w : Rebuilt) → Calm (record { number = 60; out = some w })
 
 due-calm : (cs : List Cut) (ts : List Tally) (e : Event) → Calm (dueOne cs ts e)
 unfolding dueOne
-due-calm cs ts (tidy now) = kept
-due-calm cs ts (deliver c i now) = go (getD (getD ts c noTally .marks) i false) (done (marked (getD ts c noTally) i now))
+due-calm cs ts (sweepAt second) = kept
+due-calm cs ts (deliver c i second) = go (getD (getD ts c noTally .marks) i false) (done (marked (getD ts c noTally) i second))
   where
     go : (b z : Bool) → Calm (cond b (record { number = 54; out = none }) (cond z (record { number = 60; out = some (cutFrom (getD cs c noCut)) }) (record { number = 0; out = none })))
     go true z = repeated
     go false true = finished (cutFrom (getD cs c noCut))
     go false false = kept
 
-by-numbers : (told : List ℕ) {r r′ : Received} {o : Outcome} {told′ : List ℕ} → r ≡ r′ → (deliveryOutcome r′ ≡ o) × (deliveryNumbers r′ told ≡ told′) → (deliveryOutcome r ≡ o) × (deliveryNumbers r told ≡ told′)
+by-numbers : (told : List ℕ) {r r′ : Received} {o : Fulfilled} {told′ : List ℕ} → r ≡ r′ → (deliveryOutcome r′ ≡ o) × (deliveryNumbers r′ told ≡ told′) → (deliveryOutcome r ≡ o) × (deliveryNumbers r told ≡ told′)
 by-numbers told e h = (ap deliveryOutcome e ∙ h .0, ap (λ (z : Received). deliveryNumbers z told) e ∙ h .1)
 
 -- there a delivery's numbers are as is due
@@ -88,9 +88,9 @@ unfolding outcomeDue toldDue toldOf
 calm-tells at id told d repeated =
     by-numbers told (received-refused at id 54 (λ e. omega arith)) (told-refused told 54 at (λ e. omega arith) (λ e. omega arith))
 calm-tells at id told d kept = by-numbers told (received-kept at id) (told-kept told)
-calm-tells at id told d (finished w) = by-numbers told (received-whole at id 60 w) (told-finished told (w .typ) id (w .expires) 0 (length (w .bytes)))
+calm-tells at id told d (finished w) = by-numbers told (received-whole at id 60 w) (told-finished told (w .kind) id (w .expires) 0 (length (w .bytes)))
 
-delivery-tells : (l : Loan) (x : Left) (d : Said) (id : ℕ) → Calm d → x .received ≡ receivedFor (l .at) id (d .number) (d .out) → x .out ≡ laidOut (l .out) (d .out)
+delivery-tells : (l : Loan) (x : Delivery) (d : Said) (id : ℕ) → Calm d → x .received ≡ receivedFor (l .at) id (d .number) (d .out) → x .out ≡ laidOut (l .out) (d .out)
     → _≡_ {A = Tells} (record { outcome = deliveryOutcome (x .received); out = x .out; told = deliveryNumbers (x .received) (l .told) })
     (record { outcome = outcomeDue (l .at) d; out = laidOut (l .out) (d .out); told = toldDue id (l .told) d })
 delivery-tells l x d id calm r o =
@@ -108,15 +108,15 @@ module _ (loans : ℕ → Loan) (long : LongEnough (λ n. loans n .out)) (cs : L
       × (stands (handed (loans n) rec room e .rec) (handed (loans n) rec room e .room) ≡ act 65535 cs (stands rec room) e .store)
       × Made (handed (loans n) rec room e .rec) (handed (loans n) rec room e .room)
   unfolding handed act saidOf tellsDue
-  event n rec room m (tidy now) hs h d calm q = (refl, sweep-stands now rec room (m .record-long), sweep-made now rec room m)
-  event n rec room m (deliver c i now) hs h d calm q =
+  event n rec room m (sweepAt second) hs h d calm q = (refl, sweep-stands second rec room (m .record-long), sweep-made second rec room m)
+  event n rec room m (deliver c i second) hs h d calm q =
       let p = pieceOf (getD cs c noCut) i in
       let l = loans n in
-      let x : Left = deliveredAt (l .payload) (l .at) rec room (l .out) now in
-      let o : OfStore (l .payload) (l .at) (getD cs c noCut .id) (l .out) x (step 65535 (stands rec room) p now) =
-      subst (λ (k : ℕ). OfStore (l .payload) (l .at) k (l .out) x (step 65535 (stands rec room) p now)) (piece-id (getD cs c noCut) i)
-      (subst (OfStore (l .payload) (l .at) (idOf p) (l .out) x) (step-enough (length (l .out)) (long n) (stands rec room) p now)
-      (carried (l .payload) (l .at) rec room (l .out) p now h (piece-narrow (getD cs c noCut) i (hi c) (hx c)) hs m))
+      let x : Delivery = deliveredAt (l .payload) (l .at) rec room (l .out) second in
+      let o : OfStore (l .payload) (l .at) (getD cs c noCut .id) (l .out) x (step 65535 (stands rec room) p second) =
+      subst (λ (k : ℕ). OfStore (l .payload) (l .at) k (l .out) x (step 65535 (stands rec room) p second)) (piece-id (getD cs c noCut) i)
+      (subst (OfStore (l .payload) (l .at) (idOf p) (l .out) x) (step-enough (length (l .out)) (long n) (stands rec room) p second)
+      (carried (l .payload) (l .at) rec room (l .out) p second h (piece-narrow (getD cs c noCut) i (hi c) (hx c)) hs m))
       in (
         delivery-tells l x d (getD cs c noCut .id) calm
             (o .received ∙ ap (λ (z : Said). receivedFor (l .at) (getD cs c noCut .id) (z .number) (z .out)) q)
@@ -125,18 +125,18 @@ module _ (loans : ℕ → Loan) (long : LongEnough (λ n. loans n .out)) (cs : L
         o .made,
       )
 
-  runs : (es : List Event) (n : ℕ) (ts : List Tally) (rec room : List ℕ) → Made rec room → ((k : ℕ) → secondOf (getD es k (tidy 0)) < 18446744073709551616)
+  runs : (es : List Event) (n : ℕ) (ts : List Tally) (rec room : List ℕ) → Made rec room → ((k : ℕ) → secondOf (getD es k (sweepAt 0)) < 18446744073709551616)
       → Handed cs loans n es → said 65535 cs (stands rec room) es ≡ due cs ts es
       → (tellings loans n rec room es ≡ allDue cs loans n es (due cs ts es))
-      × (stands (lastRec loans n rec room es) (lastRoom loans n rec room es) ≡ final 65535 cs (stands rec room) es)
+      × (stands (lastRec loans n rec room es) (lastRoom loans n rec room es) ≡ storeAfter 65535 cs (stands rec room) es)
       × Made (lastRec loans n rec room es) (lastRoom loans n rec room es)
   runs [] n ts rec room m hs h q = (refl, refl, m)
   runs (e ∷ es) n ts rec room m hs h q =
-      let now : saidOf (act 65535 cs (stands rec room) e) ≡ dueOne cs ts e = cc in
+      let second : saidOf (act 65535 cs (stands rec room) e) ≡ dueOne cs ts e = cc in
       let then : said 65535 cs (act 65535 cs (stands rec room) e .store) es ≡ due cs (note ts e) es = cc in
-      let v = event n rec room m e (hs 0) (h .0) (dueOne cs ts e) (due-calm cs ts e) now in
+      let v = event n rec room m e (hs 0) (h .0) (dueOne cs ts e) (due-calm cs ts e) second in
       let ih = runs es (suc n) (note ts e) (handed (loans n) rec room e .rec) (handed (loans n) rec room e .room) (v .2) (λ k. hs (suc k)) (h .1) (ap (λ (s : Store). said 65535 cs s es) (v .1) ∙ then) in
-      (rw (v .0, ih .0) refl, ih .1 ∙ ap (λ (s : Store). final 65535 cs s es) (v .1), ih .2)
+      (rw (v .0, ih .0) refl, ih .1 ∙ ap (λ (s : Store). storeAfter 65535 cs s es) (v .1), ih .2)
 
 -- Demand 3, of the payloads' blocks
 pub demand3-deliveries : Demand3Deliveries
@@ -147,7 +147,7 @@ demand3-deliveries loans long rec room m z cs within es narrow h q =
     record {
       tells = r .0;
       once = λ c i. ap (times c es) (sym (o .as-due)) ∙ o .once c i;
-      ends-empty = r .1 ∙ ap (λ (s : Store). final 65535 cs s es) z ∙ o .ends-empty;
+      ends-empty = r .1 ∙ ap (λ (s : Store). storeAfter 65535 cs s es) z ∙ o .ends-empty;
       made = r .2;
     }
 
@@ -155,10 +155,10 @@ demand3-deliveries loans long rec room m z cs within es narrow h q =
 pub written-is-handed : WrittenIsHanded
 written-is-handed c w l hi hx zero h room lr =
     let body : List ℕ = getD (c .pieces) 0 [] in
-    let b : Block = Body.FirstFragment (c .typ) (c .id) (c .expires) (bytesAt 0 0) in
+    let b : Block = Body.FirstFragment (c .kind) (c .id) (c .expires) (bytesAt 0 0) in
     let few : length body ≤ 1500 = w .few-bytes 0 h in
     let r = write-then-read b body room (3 + sizeOf b body) (hi, hx)
-    (is-length b body room (first-whole (c .typ) (c .id) (c .expires) (bytesAt 0 0) body (w .some-bytes 0 h) l) (omega arith) (omega arith)) in
+    (is-length b body room (first-whole (c .kind) (c .id) (c .expires) (bytesAt 0 0) body (w .some-bytes 0 h) l) (omega arith) (omega arith)) in
     record { body = bytesAt 12 (length body); size = sizeOf b body; next = 3 + sizeOf b body; read = r .0; same-bytes = r .1 }
 written-is-handed c w l hi hx (suc i) h room lr =
     let body : List ℕ = getD (c .pieces) (suc i) [] in

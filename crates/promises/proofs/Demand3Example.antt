@@ -16,12 +16,12 @@ use Rattle.wire.proofs.Tests.{and-both}
 use Rattle.blocks.specs.Extent.{listed, firstFragment, takenAt, extentAt}
 use Rattle.blocks.specs.Reading.{bytesAt, blockAt, readAt}
 use Rattle.blocks.specs.Writing.{roomAfter}
-use Rattle.reassembly.specs.Store.{first, empty, total, idOf, numberOf, finalOf, bytesOf, findId, findFree, placeOf, messageOr, plus, badLength, badNumber, repeats, clashes, tooMuch, complete, wholeOf, tooShort, refused, answer, step, sweptOne, sweep}
+use Rattle.reassembly.specs.Store.{first, empty, total, idOf, numberOf, finalOf, pieceBytes, findId, findFree, placeOf, messageOr, plus, badLength, badNumber, repeats, clashes, tooMuch, complete, rebuiltOf, tooShort, refused, answer, step, sweptOne, sweep}
 use Rattle.reassembly.specs.Stands.{stands, Made, laidOut}
-use Rattle.outcomes.specs.Outcomes.{outcome}
-use Rattle.promises.specs.Demand3.{Cut, Within, pieceOf, cutFrom, noCut, Event, deliver, tidy, Tally, noTally, begun, done, isOpen, marked, untouched, start, note, count, Allowed, Orderly, Schedule, dueOne, act, saidOf, said, Outcome}
-use Rattle.promises.specs.Demand3Calls.{secondOf, Narrow, lastly, OutcomeOfCalls, LongEnough}
-use Rattle.promises.specs.Demand3Deliveries.{Carries, Loan, Handed, Tells, tellings, outcomeDue, toldOf, toldDue, tellsDue, OutcomeOfDeliveries, blockOf, bodyOf}
+use Rattle.numbers_outcomes.specs.Outcomes.{outcome}
+use Rattle.promises.specs.Demand3.{Cut, Within, pieceOf, cutFrom, noCut, Event, deliver, sweepAt, Tally, noTally, begun, done, isOpen, marked, untouched, start, note, count, Allowed, Orderly, Schedule, dueOne, act, saidOf, said, Fulfilled}
+use Rattle.promises.specs.Demand3Calls.{secondOf, ScheduleInWidth, afterLast, FulfilledByCalls, LongEnough}
+use Rattle.promises.specs.Demand3Deliveries.{PieceAt, Loan, Handed, Tells, tellings, outcomeDue, toldOf, toldDue, tellsDue, FulfilledByDeliveries, blockOf, bodyOf}
 use Rattle.promises.proofs.Demand3.{demand3}
 use Rattle.promises.proofs.Demand3Calls.{demand3-calls, store-starts}
 use Rattle.promises.proofs.Demand3Deliveries.{demand3-deliveries, written-is-handed}
@@ -81,19 +81,19 @@ open-inside ts c o = go (ltb c (length ts)) refl
         absurd (false≢true (sym (ap isOpen d) ∙ o))
 
 allowedTest : List Cut → List Tally → Event → Bool
-allowedTest cs ts (deliver c i now) = ltb c (length cs) && ltb i (length (getD cs c noCut .pieces)) && not (done (getD ts c noTally))
-allowedTest cs ts (tidy now) = allBelow (length ts) (λ c. implies (isOpen (getD ts c noTally)) (ltb now (getD ts c noTally .since + 30)))
+allowedTest cs ts (deliver c i second) = ltb c (length cs) && ltb i (length (getD cs c noCut .pieces)) && not (done (getD ts c noTally))
+allowedTest cs ts (sweepAt second) = allBelow (length ts) (λ c. implies (isOpen (getD ts c noTally)) (ltb second (getD ts c noTally .opened + 30)))
 
 allowed-of : (cs : List Cut) (ts : List Tally) (e : Event) → allowedTest cs ts e ≡ true → Allowed cs ts e
 unfolding allowedTest
-allowed-of cs ts (deliver c i now) h =
+allowed-of cs ts (deliver c i second) h =
     let a = and-both _ _ h in
     let b = and-both _ _ (a .0) in
     (ltb-true c (length cs) (b .0), ltb-true i (length (getD cs c noCut .pieces)) (b .1), not-true (done (getD ts c noTally)) (a .1))
-allowed-of cs ts (tidy now) h =
-    λ c o. ltb-true now (getD ts c noTally .since + 30)
-    (implied (isOpen (getD ts c noTally)) (ltb now (getD ts c noTally .since + 30))
-    (all-below (length ts) (λ c. implies (isOpen (getD ts c noTally)) (ltb now (getD ts c noTally .since + 30))) h c (open-inside ts c o)) o)
+allowed-of cs ts (sweepAt second) h =
+    λ c o. ltb-true second (getD ts c noTally .opened + 30)
+    (implied (isOpen (getD ts c noTally)) (ltb second (getD ts c noTally .opened + 30))
+    (all-below (length ts) (λ c. implies (isOpen (getD ts c noTally)) (ltb second (getD ts c noTally .opened + 30))) h c (open-inside ts c o)) o)
 
 ownTest : List Cut → List Tally → ℕ → ℕ → Bool
 ownTest cs ts a b = implies (isOpen (getD ts a noTally)) (implies (isOpen (getD ts b noTally)) (implies (eqb (getD cs a noCut .id) (getD cs b noCut .id)) (eqb a b)))
@@ -133,15 +133,15 @@ schedule-of cs (e ∷ es) ts h =
 -- Three messages, the third with the id of the first. They are mixed, with a repeat, pieces out of order and two sweeps.
 abbrev threeCuts : List Cut
 threeCuts =
-    record { id = 7; typ = 20; expires = 900; pieces = (1 ∷ 2 ∷ []) ∷ (3 ∷ []) ∷ (4 ∷ 5 ∷ []) ∷ [] }
-    ∷ record { id = 9; typ = 1; expires = 901; pieces = (6 ∷ []) ∷ (7 ∷ []) ∷ [] }
-    ∷ record { id = 7; typ = 2; expires = 902; pieces = (8 ∷ []) ∷ (9 ∷ []) ∷ [] }
+    record { id = 7; kind = 20; expires = 900; pieces = (1 ∷ 2 ∷ []) ∷ (3 ∷ []) ∷ (4 ∷ 5 ∷ []) ∷ [] }
+    ∷ record { id = 9; kind = 1; expires = 901; pieces = (6 ∷ []) ∷ (7 ∷ []) ∷ [] }
+    ∷ record { id = 7; kind = 2; expires = 902; pieces = (8 ∷ []) ∷ (9 ∷ []) ∷ [] }
     ∷ []
 
 abbrev mixture : List Event
 mixture =
-    deliver 0 0 100 ∷ deliver 0 2 101 ∷ deliver 1 1 120 ∷ deliver 0 0 121 ∷ tidy 129 ∷ deliver 0 1 140
-    ∷ deliver 2 0 141 ∷ tidy 149 ∷ deliver 1 0 150 ∷ deliver 2 1 151 ∷ []
+    deliver 0 0 100 ∷ deliver 0 2 101 ∷ deliver 1 1 120 ∷ deliver 0 0 121 ∷ sweepAt 129 ∷ deliver 0 1 140
+    ∷ deliver 2 0 141 ∷ sweepAt 149 ∷ deliver 1 0 150 ∷ deliver 2 1 151 ∷ []
 
 keeps-rules : Schedule threeCuts (start threeCuts) mixture
 unfolding scheduleTest allowedTest orderlyTest ownTest start untouched note marked begun done isOpen
@@ -151,36 +151,36 @@ within-limits : (c : ℕ) → c < length threeCuts → Within (getD threeCuts c 
 unfolding withinTest
 within-limits c h = within-of (getD threeCuts c noCut) (all-below 3 (λ c. withinTest (getD threeCuts c noCut)) refl c h)
 
-pub example : Outcome 65535 threeCuts mixture
+pub example : Fulfilled 65535 threeCuts mixture
 example = demand3 65535 (omega arith) threeCuts within-limits mixture keeps-rules
 
 -- and what the store says of it, computed
 pub example-said :
     said 65535 threeCuts empty mixture
     ≡ record { number = 0; out = none } ∷ record { number = 0; out = none } ∷ record { number = 0; out = none } ∷ record { number = 54; out = none }
-    ∷ record { number = 0; out = none } ∷ record { number = 60; out = some (record { typ = 20; expires = 900; bytes = 1 ∷ 2 ∷ 3 ∷ 4 ∷ 5 ∷ [] }) }
+    ∷ record { number = 0; out = none } ∷ record { number = 60; out = some (record { kind = 20; expires = 900; bytes = 1 ∷ 2 ∷ 3 ∷ 4 ∷ 5 ∷ [] }) }
     ∷ record { number = 0; out = none } ∷ record { number = 0; out = none }
-    ∷ record { number = 60; out = some (record { typ = 1; expires = 901; bytes = 6 ∷ 7 ∷ [] }) }
-    ∷ record { number = 60; out = some (record { typ = 2; expires = 902; bytes = 8 ∷ 9 ∷ [] }) } ∷ []
-unfolding act saidOf step answer placeOf findId findFree messageOr plus badLength badNumber repeats clashes tooMuch complete wholeOf tooShort refused idOf numberOf finalOf bytesOf sweep sweptOne same
+    ∷ record { number = 60; out = some (record { kind = 1; expires = 901; bytes = 6 ∷ 7 ∷ [] }) }
+    ∷ record { number = 60; out = some (record { kind = 2; expires = 902; bytes = 8 ∷ 9 ∷ [] }) } ∷ []
+unfolding act saidOf step answer placeOf findId findFree messageOr plus badLength badNumber repeats clashes tooMuch complete rebuiltOf tooShort refused idOf numberOf finalOf pieceBytes sweep sweptOne same
 example-said = refl
 
 -- Without its premises demand 3 would be false. Two open messages with one id: the second's first piece is a 55, where 0 would be due;
 abbrev oneId : List Cut
 oneId =
-    record { id = 7; typ = 20; expires = 900; pieces = (1 ∷ []) ∷ (2 ∷ []) ∷ [] }
-    ∷ record { id = 7; typ = 1; expires = 900; pieces = (3 ∷ []) ∷ (4 ∷ []) ∷ [] }
+    record { id = 7; kind = 20; expires = 900; pieces = (1 ∷ []) ∷ (2 ∷ []) ∷ [] }
+    ∷ record { id = 7; kind = 1; expires = 900; pieces = (3 ∷ []) ∷ (4 ∷ []) ∷ [] }
     ∷ []
 
 pub one-id-said : said 65535 oneId empty (deliver 0 0 100 ∷ deliver 1 0 101 ∷ []) ≡ record { number = 0; out = none } ∷ record { number = 55; out = none } ∷ []
-unfolding act saidOf step answer placeOf findId findFree messageOr plus badLength badNumber repeats clashes tooMuch complete wholeOf tooShort refused idOf numberOf finalOf bytesOf same
+unfolding act saidOf step answer placeOf findId findFree messageOr plus badLength badNumber repeats clashes tooMuch complete rebuiltOf tooShort refused idOf numberOf finalOf pieceBytes same
 one-id-said = refl
 
 -- a piece that comes again after its message came out: it is kept, where 54 would be due.
 pub came-out-said :
     said 65535 oneId empty (deliver 0 0 100 ∷ deliver 0 1 101 ∷ deliver 0 1 102 ∷ [])
-    ≡ record { number = 0; out = none } ∷ record { number = 60; out = some (record { typ = 20; expires = 900; bytes = 1 ∷ 2 ∷ [] }) } ∷ record { number = 0; out = none } ∷ []
-unfolding act saidOf step answer placeOf findId findFree messageOr plus badLength badNumber repeats clashes tooMuch complete wholeOf tooShort refused idOf numberOf finalOf bytesOf same
+    ≡ record { number = 0; out = none } ∷ record { number = 60; out = some (record { kind = 20; expires = 900; bytes = 1 ∷ 2 ∷ [] }) } ∷ record { number = 0; out = none } ∷ []
+unfolding act saidOf step answer placeOf findId findFree messageOr plus badLength badNumber repeats clashes tooMuch complete rebuiltOf tooShort refused idOf numberOf finalOf pieceBytes same
 came-out-said = refl
 
 -- The same schedule, delivered to the calls: it meets every premise, on every record and room that calls made and that stand for the empty store, with any assembly buffers of the lent length.
@@ -201,25 +201,25 @@ abbrev allEarly : List Event → Bool
 allEarly [] = true
 allEarly (e ∷ es) = ltb (secondOf e) 18446744073709551616 && allEarly es
 
-early-at : (es : List Event) → allEarly es ≡ true → (n : ℕ) → secondOf (getD es n (tidy 0)) < 18446744073709551616
+early-at : (es : List Event) → allEarly es ≡ true → (n : ℕ) → secondOf (getD es n (sweepAt 0)) < 18446744073709551616
 early-at [] h n = omega arith
 early-at (e ∷ es) h zero = ltb-true (secondOf e) 18446744073709551616 (and-both (ltb (secondOf e) 18446744073709551616) (allEarly es) h .0)
 early-at (e ∷ es) h (suc n) = early-at es (and-both (ltb (secondOf e) 18446744073709551616) (allEarly es) h .1) n
 
-narrow : Narrow threeCuts mixture
+narrow : ScheduleInWidth threeCuts mixture
 narrow = record { ids = ids-narrow; expirations = expirations-narrow; seconds = early-at mixture refl }
 
-pub example-calls : (outs : ℕ → List ℕ) → LongEnough outs → (rec room : List ℕ) → Made rec room → stands rec room ≡ empty → OutcomeOfCalls threeCuts outs rec room mixture
+pub example-calls : (outs : ℕ → List ℕ) → LongEnough outs → (rec room : List ℕ) → Made rec room → stands rec room ≡ empty → FulfilledByCalls threeCuts outs rec room mixture
 example-calls outs long rec room m z =
     demand3-calls outs long rec room m z threeCuts within-limits mixture narrow keeps-rules
 
 -- on a record of zeros, and once more on what that left
 module _ (outs : ℕ → List ℕ) (long : LongEnough outs) (n : ℕ) (room : List ℕ) (lr : 8576 ≤ n) (lm : 1048560 ≤ length room) where
-  pub example-zeros : OutcomeOfCalls threeCuts outs (replicate n 0) room mixture
+  pub example-zeros : FulfilledByCalls threeCuts outs (replicate n 0) room mixture
   example-zeros = example-calls outs long (replicate n 0) room (store-starts .zero-filled n room lr lm .0) (store-starts .zero-filled n room lr lm .1)
 
   pub example-again :
-      OutcomeOfCalls threeCuts outs (lastly threeCuts outs 0 (replicate n 0) room mixture .rec) (lastly threeCuts outs 0 (replicate n 0) room mixture .room) mixture
+      FulfilledByCalls threeCuts outs (afterLast threeCuts outs 0 (replicate n 0) room mixture .rec) (afterLast threeCuts outs 0 (replicate n 0) room mixture .room) mixture
   example-again = example-calls outs long _ _ (example-zeros .made) (example-zeros .ends-empty)
 
 -- six numbers and nothing else
@@ -231,13 +231,13 @@ module _ (space : List ℕ) (wide : 1512 ≤ length space) where
   abbrev sent : ℕ → ℕ → List ℕ
   sent c i = roomAfter (blockOf (pieceOf (getD threeCuts c noCut) i)) (bodyOf (pieceOf (getD threeCuts c noCut) i)) space
 
-  is-sent : (c i : ℕ) → c < 3 → listed (getD threeCuts c noCut .typ) ≡ true → i < length (getD threeCuts c noCut .pieces) → Carries (sent c i) 0 (pieceOf (getD threeCuts c noCut) i)
+  is-sent : (c i : ℕ) → c < 3 → listed (getD threeCuts c noCut .kind) ≡ true → i < length (getD threeCuts c noCut .pieces) → PieceAt (sent c i) 0 (pieceOf (getD threeCuts c noCut) i)
   is-sent c i h l k = written-is-handed (getD threeCuts c noCut) (within-limits c h) l (ids-narrow c) (expirations-narrow c) i k space wide
 
   abbrev behind : List ℕ
   behind = 15 ∷ 0 ∷ 0 ∷ 4 ∷ 0 ∷ 11 ∷ 20 ∷ 0 ∷ 0 ∷ 0 ∷ 7 ∷ 0 ∷ 0 ∷ 3 ∷ 132 ∷ 1 ∷ 2 ∷ []
 
-  is-behind : Carries behind 3 (first 7 20 900 (1 ∷ 2 ∷ []))
+  is-behind : PieceAt behind 3 (first 7 20 900 (1 ∷ 2 ∷ []))
   unfolding readAt blockAt extentAt takenAt firstFragment listed bigAt big little part
   is-behind = record { body = bytesAt 15 2; size = 11; next = 17; read = refl; same-bytes = refl }
 
@@ -279,7 +279,7 @@ module _ (space : List ℕ) (wide : 1512 ≤ length space) where
       ),
     )
 
-    pub example-deliveries : (rec room : List ℕ) → Made rec room → stands rec room ≡ empty → OutcomeOfDeliveries threeCuts loans rec room mixture
+    pub example-deliveries : (rec room : List ℕ) → Made rec room → stands rec room ≡ empty → FulfilledByDeliveries threeCuts loans rec room mixture
     example-deliveries rec room m z =
         demand3-deliveries loans long rec room m z threeCuts within-limits mixture narrow all-sent keeps-rules
 

@@ -13,7 +13,7 @@ use lib.Seq.{getD-set-same, getD-set-other, set-getD}
 use Rattle.reassembly.specs.Store.{Message, Store, findFree, placeOf, messageOr, plus, answer, step}
 use Rattle.reassembly.proofs.Series.{free-none}
 use Rattle.reassembly.proofs.Stores.{none≢some, Hit, place-open, place-new, free-inside, message-open, step-is, sweep-same}
-use Rattle.promises.specs.Demand3.{Cut, Within, pieceOf, cutFrom, noCut, deliver, tidy, Tally, noTally, anyMark, allMarks, begun, done, isOpen, marked, note, count, Allowed, Orderly, dueOne, act, saidOf}
+use Rattle.promises.specs.Demand3.{Cut, Within, pieceOf, cutFrom, noCut, deliver, sweepAt, Tally, noTally, anyMark, allMarks, begun, done, isOpen, marked, note, count, Allowed, Orderly, dueOne, act, saidOf}
 use Rattle.promises.proofs.Demand3Marks.{none-at, not-all-at, any-set, any-at, set-mark, count-set, count-less}
 use Rattle.promises.proofs.Demand3Rebuilt.{Holds, holds-new, holds-plus, id-piece}
 use Rattle.promises.proofs.Demand3Places.{isFull, not-full, answer-repeat, answer-kept, answer-finished}
@@ -28,7 +28,7 @@ tallyAt ts c = getD ts c noTally
 pub record Owned (cs : List Cut) (ts : List Tally) (m : Message) (c : ℕ) : Type 0 where
   pub inside : c < length cs
   pub is-open : isOpen (tallyAt ts c) ≡ true
-  pub holds : Holds (cutAt cs c) (tallyAt ts c .marks) (tallyAt ts c .since) m
+  pub holds : Holds (cutAt cs c) (tallyAt ts c .marks) (tallyAt ts c .opened) m
 
 -- c has a place
 pub record Placed (cs : List Cut) (s : Store) (c : ℕ) : Type 0 where
@@ -48,13 +48,13 @@ pub record Inv (cs : List Cut) (ts : List Tally) (s : Store) : Type 0 where
   pub orderly : Orderly cs ts
 
 -- Where piece i of c goes: to a place k, whose message, new or open, holds the marked pieces of c
-pub record Found (cs : List Cut) (ts : List Tally) (s : Store) (c now : ℕ) : Type 0 where
+pub record Found (cs : List Cut) (ts : List Tally) (s : Store) (c second : ℕ) : Type 0 where
   pub at : ℕ
   pub there : Message
   pub is-at : placeOf (cutAt cs c .id) s ≡ at
-  pub is-there : messageOr (getD s at none) (cutAt cs c .id) now ≡ there
+  pub is-there : messageOr (getD s at none) (cutAt cs c .id) second ≡ there
   pub inside : at < 16
-  pub holds : Holds (cutAt cs c) (tallyAt ts c .marks) (cond (begun (tallyAt ts c)) (tallyAt ts c .since) now) there
+  pub holds : Holds (cutAt cs c) (tallyAt ts c .marks) (cond (begun (tallyAt ts c)) (tallyAt ts c .opened) second) there
   pub alone : (k : ℕ) (m : Message) → getD s k none ≡ some m → m .id ≡ cutAt cs c .id → k ≡ at
   pub full : isFull (getD s at none) ≡ begun (tallyAt ts c)
 
@@ -95,18 +95,18 @@ one-of-two bs zero h e = not-all-at (set bs zero true) 1 (getD-set-other bs 0 1 
 one-of-two bs (suc i) h e = not-all-at (set bs (suc i) true) 0 (getD-set-other bs (suc i) 0 true false (λ z. omega arith) ∙ none-at bs 0 e) (rw (length-set bs (suc i) true) (omega arith))
 
 module _ (cs : List Cut) (within : (c : ℕ) → c < length cs → Within (cutAt cs c)) (ts : List Tally) (s : Store) (v : Inv cs ts s)
-    (c i now : ℕ) (cc′ : c < length cs) (ic : i < length (cutAt cs c .pieces)) (nd : done (tallyAt ts c) ≡ false)
-    (tidy′ : Orderly cs (note ts (deliver c i now))) where
+    (c i second : ℕ) (cc′ : c < length cs) (ic : i < length (cutAt cs c .pieces)) (nd : done (tallyAt ts c) ≡ false)
+    (tidy′ : Orderly cs (note ts (deliver c i second))) where
   ts′ : List Tally
-  ts′ = set ts c (marked (tallyAt ts c) i now)
+  ts′ = set ts c (marked (tallyAt ts c) i second)
 
-  open-found : begun (tallyAt ts c) ≡ true → Found cs ts s c now
+  open-found : begun (tallyAt ts c) ≡ true → Found cs ts s c second
   open-found b =
       record {
         at = k;
         there = m;
         is-at = refl;
-        is-there = ap (λ (r : Option Message). messageOr r (cutAt cs c .id) now) (hit .is-there) ∙ message-open m (cutAt cs c .id) now;
+        is-there = ap (λ (r : Option Message). messageOr r (cutAt cs c .id) second) (hit .is-there) ∙ message-open m (cutAt cs c .id) second;
         inside = omega (arith, hit .inside, v .slots);
         holds = rw b (rw same at (o .1 .holds));
         alone = λ l n e q. v .apart l k n m e (hit .is-there) (q ∙ sym (hit .its-id));
@@ -137,40 +137,40 @@ module _ (cs : List Cut) (within : (c : ℕ) → c < length cs → Within (cutAt
   -- the open messages of the tallies after the piece, other than c, are those before
   other : (d : ℕ) → d ≢ c → tallyAt ts′ d ≡ tallyAt ts d
   unfolding ts′
-  other d q = getD-set-other ts c d (marked (tallyAt ts c) i now) noTally q
+  other d q = getD-set-other ts c d (marked (tallyAt ts c) i second) noTally q
 
-  mine : tallyAt ts′ c ≡ marked (tallyAt ts c) i now
+  mine : tallyAt ts′ c ≡ marked (tallyAt ts c) i second
   unfolding ts′
-  mine = getD-set-same ts c (marked (tallyAt ts c) i now) noTally (omega (arith, v .tallies))
+  mine = getD-set-same ts c (marked (tallyAt ts c) i second) noTally (omega (arith, v .tallies))
 
   orderly′ : Orderly cs ts′
   unfolding note ts′
   orderly′ = tidy′
 
-  begun′ : begun (marked (tallyAt ts c) i now) ≡ true
+  begun′ : begun (marked (tallyAt ts c) i second) ≡ true
   unfolding begun marked
   begun′ = any-set (tallyAt ts c .marks) i (omega (arith, v .marks-long c cc′))
 
-  counted′ : (s′ : Store) (k : ℕ) (x : Option Message) → k < length s → s′ ≡ set s k x → isFull (getD s k none) ≡ begun (tallyAt ts c) → isFull x ≡ isOpen (marked (tallyAt ts c) i now) → count isFull s′ ≡ count isOpen ts′
+  counted′ : (s′ : Store) (k : ℕ) (x : Option Message) → k < length s → s′ ≡ set s k x → isFull (getD s k none) ≡ begun (tallyAt ts c) → isFull x ≡ isOpen (marked (tallyAt ts c) i second) → count isFull s′ ≡ count isOpen ts′
   unfolding ts′
   counted′ s′ k x kl e f g =
       let a : count isFull (set s k x) + cond (isFull (getD s k none)) 1 0 ≡ count isFull s + cond (isFull x) 1 0 = count-set isFull s k x none kl in
-      let b : count isOpen (set ts c (marked (tallyAt ts c) i now)) + cond (isOpen (tallyAt ts c)) 1 0 ≡ count isOpen ts + cond (isOpen (marked (tallyAt ts c) i now)) 1 0
-      = count-set isOpen ts c (marked (tallyAt ts c) i now) noTally (omega (arith, v .tallies)) in
+      let b : count isOpen (set ts c (marked (tallyAt ts c) i second)) + cond (isOpen (tallyAt ts c)) 1 0 ≡ count isOpen ts + cond (isOpen (marked (tallyAt ts c) i second)) 1 0
+      = count-set isOpen ts c (marked (tallyAt ts c) i second) noTally (omega (arith, v .tallies)) in
       let f′ : _≡_ {A = ℕ} (cond (isFull (getD s k none)) 1 0) (cond (isOpen (tallyAt ts c)) 1 0) = ap {B = ℕ} (λ (z : Bool). cond z 1 0) (f ∙ sym (open-begun (tallyAt ts c) nd)) in
-      let g′ : _≡_ {A = ℕ} (cond (isFull x) 1 0) (cond (isOpen (marked (tallyAt ts c) i now)) 1 0) = ap {B = ℕ} (λ (z : Bool). cond z 1 0) g in
+      let g′ : _≡_ {A = ℕ} (cond (isFull x) 1 0) (cond (isOpen (marked (tallyAt ts c) i second)) 1 0) = ap {B = ℕ} (λ (z : Bool). cond z 1 0) g in
       let e′ : count isFull s′ ≡ count isFull (set s k x) = ap (λ (z : Store). count isFull z) e in
       omega (arith, v .counted)
 
-  new-found : begun (tallyAt ts c) ≡ false → Found cs ts s c now
+  new-found : begun (tallyAt ts c) ≡ false → Found cs ts s c second
   new-found b =
       record {
         at = k;
-        there = messageOr none (cutAt cs c .id) now;
+        there = messageOr none (cutAt cs c .id) second;
         is-at = place-new (cutAt cs c .id) s nobody;
         is-there = rw (free-none s) refl;
         inside = omega (arith, k-in, v .slots);
-        holds = rw b (holds-new (cutAt cs c) (tallyAt ts c .marks) now none-marked);
+        holds = rw b (holds-new (cutAt cs c) (tallyAt ts c .marks) second none-marked);
         alone = λ l n e q. absurd (nobody l n e q);
         full = rw (free-none s, b) refl;
       }
@@ -181,11 +181,11 @@ module _ (cs : List Cut) (within : (c : ℕ) → c < length cs → Within (cutAt
       k : ℕ
       k = findFree s
 
-      not-done : done (marked (tallyAt ts c) i now) ≡ false
+      not-done : done (marked (tallyAt ts c) i second) ≡ false
       not-done = unfold done marked in one-of-two (tallyAt ts c .marks) i (omega (arith, v .marks-long c cc′, within c cc′ .two)) none-marked
 
       open-c : isOpen (tallyAt ts′ c) ≡ true
-      open-c = rw mine (open-of (marked (tallyAt ts c) i now) begun′ not-done)
+      open-c = rw mine (open-of (marked (tallyAt ts c) i second) begun′ not-done)
 
       nobody : (l : ℕ) (n : Message) → getD s l none ≡ some n → n .id ≡ cutAt cs c .id → ⊥
       nobody l n e q =
@@ -195,32 +195,32 @@ module _ (cs : List Cut) (within : (c : ℕ) → c < length cs → Within (cutAt
 
       one-more : count isOpen ts′ + 0 ≡ count isOpen ts + 1
       one-more = unfold ts′ in
-          let a : count isOpen (set ts c (marked (tallyAt ts c) i now)) + cond (isOpen (tallyAt ts c)) 1 0 ≡ count isOpen ts + cond (isOpen (marked (tallyAt ts c) i now)) 1 0
-          = count-set isOpen ts c (marked (tallyAt ts c) i now) noTally (omega (arith, v .tallies)) in
-          rw (open-begun (tallyAt ts c) nd ∙ b, open-of (marked (tallyAt ts c) i now) begun′ not-done) at a
+          let a : count isOpen (set ts c (marked (tallyAt ts c) i second)) + cond (isOpen (tallyAt ts c)) 1 0 ≡ count isOpen ts + cond (isOpen (marked (tallyAt ts c) i second)) 1 0
+          = count-set isOpen ts c (marked (tallyAt ts c) i second) noTally (omega (arith, v .tallies)) in
+          rw (open-begun (tallyAt ts c) nd ∙ b, open-of (marked (tallyAt ts c) i second) begun′ not-done) at a
 
       k-in : k < length s
       k-in =
           let g = count-less isFull s none (omega (arith, one-more, v .counted, v .slots, orderly′ .at-most)) in
           free-inside s (g .0) (g .1) (not-full (getD s (g .0) none) (g .2))
 
-  found : Found cs ts s c now
+  found : Found cs ts s c second
   found = go (begun (tallyAt ts c)) refl
     where
-      go : (b : Bool) → begun (tallyAt ts c) ≡ b → Found cs ts s c now
+      go : (b : Bool) → begun (tallyAt ts c) ≡ b → Found cs ts s c second
       go true e = open-found e
       go false e = new-found e
 
   -- the place of c gets what the tally after the piece says: the message with the piece, or nothing
-  set-inv : (f : Found cs ts s c now) (x : Option Message)
-      → ((n : Message) → x ≡ some n → (isOpen (marked (tallyAt ts c) i now) ≡ true) × Holds (cutAt cs c) (marked (tallyAt ts c) i now .marks) (marked (tallyAt ts c) i now .since) n)
-      → (isOpen (marked (tallyAt ts c) i now) ≡ true → (n : Message) × (x ≡ some n) × (n .id ≡ cutAt cs c .id))
-      → isFull x ≡ isOpen (marked (tallyAt ts c) i now)
+  set-inv : (f : Found cs ts s c second) (x : Option Message)
+      → ((n : Message) → x ≡ some n → (isOpen (marked (tallyAt ts c) i second) ≡ true) × Holds (cutAt cs c) (marked (tallyAt ts c) i second .marks) (marked (tallyAt ts c) i second .opened) n)
+      → (isOpen (marked (tallyAt ts c) i second) ≡ true → (n : Message) × (x ≡ some n) × (n .id ≡ cutAt cs c .id))
+      → isFull x ≡ isOpen (marked (tallyAt ts c) i second)
       → Inv cs ts′ (set s (f .at) x)
   set-inv f x hx hy hz =
       record {
         slots = length-set s k x ∙ v .slots;
-        tallies = unfold ts′ in (length-set ts c (marked (tallyAt ts c) i now) ∙ v .tallies);
+        tallies = unfold ts′ in (length-set ts c (marked (tallyAt ts c) i second) ∙ v .tallies);
         marks-long = λ d dl. long d dl (ℕ-discrete d c);
         owned = λ l n e. own l n e (ℕ-discrete l k);
         placed = λ d o. place d o (ℕ-discrete d c);
@@ -247,7 +247,7 @@ module _ (cs : List Cut) (within : (c : ℕ) → c < length cs → Within (cutAt
 
       own : (l : ℕ) (n : Message) → getD (set s k x) l none ≡ some n → Dec (l ≡ k) → (d : ℕ) × Owned cs ts′ n d
       own l n e (yes q) =
-          let a : (isOpen (marked (tallyAt ts c) i now) ≡ true) × Holds (cutAt cs c) (marked (tallyAt ts c) i now .marks) (marked (tallyAt ts c) i now .since) n
+          let a : (isOpen (marked (tallyAt ts c) i second) ≡ true) × Holds (cutAt cs c) (marked (tallyAt ts c) i second .marks) (marked (tallyAt ts c) i second .opened) n
           = hx n (sym at-k ∙ (ap (λ (z : ℕ). getD (set s k x) z none) (sym q) ∙ e)) in
           (c, record { inside = cc′; is-open = rw mine (a .0); holds = rw mine (a .1) })
       own l n e (no q) =
@@ -270,7 +270,7 @@ module _ (cs : List Cut) (within : (c : ℕ) → c < length cs → Within (cutAt
           mix p z od =
               let e : getD s k none ≡ some (p .there) = ap (λ (l : ℕ). getD s l none) (sym z) ∙ p .is-there in
               let b : begun (tallyAt ts c) ≡ true = sym (f .full) ∙ ap isFull e in
-              let n : p .there ≡ f .there = sym (message-open (p .there) (cutAt cs c .id) now) ∙ (sym (ap (λ (r : Option Message). messageOr r (cutAt cs c .id) now) e) ∙ f .is-there) in
+              let n : p .there ≡ f .there = sym (message-open (p .there) (cutAt cs c .id) second) ∙ (sym (ap (λ (r : Option Message). messageOr r (cutAt cs c .id) second) e) ∙ f .is-there) in
               v .orderly .own-id d c od (open-of (tallyAt ts c) b nd) (sym (p .its-id) ∙ (ap (λ (r : Message). r .id) n ∙ f .holds .id))
 
       its : (n : Message) → x ≡ some n → n .id ≡ cutAt cs c .id
@@ -286,30 +286,30 @@ module _ (cs : List Cut) (within : (c : ℕ) → c < length cs → Within (cutAt
 
   -- the piece is answered as is due, and the invariant holds again
   module _ (cap : ℕ) (room : 65535 ≤ cap) where
-    step-answer : (f : Found cs ts s c now) → step cap s (pieceOf (cutAt cs c) i) now ≡ answer cap s (pieceOf (cutAt cs c) i) (f .at) (f .there)
+    step-answer : (f : Found cs ts s c second) → step cap s (pieceOf (cutAt cs c) i) second ≡ answer cap s (pieceOf (cutAt cs c) i) (f .at) (f .there)
     step-answer f =
-        step-is cap s (pieceOf (cutAt cs c) i) now (f .at) (f .there)
+        step-is cap s (pieceOf (cutAt cs c) i) second (f .at) (f .there)
         (ap (λ (z : ℕ). placeOf z s) (id-piece (cutAt cs c) i) ∙ f .is-at)
-        (ap (λ (z : ℕ). messageOr (getD s (f .at) none) z now) (id-piece (cutAt cs c) i) ∙ f .is-there)
+        (ap (λ (z : ℕ). messageOr (getD s (f .at) none) z second) (id-piece (cutAt cs c) i) ∙ f .is-there)
 
     since′ : ℕ
-    since′ = cond (begun (tallyAt ts c)) (tallyAt ts c .since) now
+    since′ = cond (begun (tallyAt ts c)) (tallyAt ts c .opened) second
 
     -- a repeat marks nothing new
-    same-tallies : getD (tallyAt ts c .marks) i false ≡ true → ts ≡ set ts c (marked (tallyAt ts c) i now)
+    same-tallies : getD (tallyAt ts c .marks) i false ≡ true → ts ≡ set ts c (marked (tallyAt ts c) i second)
     unfolding marked begun
     same-tallies a =
         let m : tallyAt ts c .marks ≡ set (tallyAt ts c .marks) i true = sym (set-mark (tallyAt ts c .marks) i a) in
         let b : anyMark (tallyAt ts c .marks) ≡ true = any-at (tallyAt ts c .marks) i a in
-        let n : tallyAt ts c .since ≡ cond (anyMark (tallyAt ts c .marks)) (tallyAt ts c .since) now = rw b refl in
-        let e : tallyAt ts c ≡ marked (tallyAt ts c) i now = λ j. record { marks = m j; since = n j } in
+        let n : tallyAt ts c .opened ≡ cond (anyMark (tallyAt ts c .marks)) (tallyAt ts c .opened) second = rw b refl in
+        let e : tallyAt ts c ≡ marked (tallyAt ts c) i second = λ j. record { marks = m j; opened = n j } in
         sym (set-getD ts c noTally) ∙ ap (λ (x : Tally). set ts c x) e
 
-    pub delivered : (saidOf (act cap cs s (deliver c i now)) ≡ dueOne cs ts (deliver c i now)) × Inv cs (note ts (deliver c i now)) (act cap cs s (deliver c i now) .store)
+    pub delivered : (saidOf (act cap cs s (deliver c i second)) ≡ dueOne cs ts (deliver c i second)) × Inv cs (note ts (deliver c i second)) (act cap cs s (deliver c i second) .store)
     unfolding act dueOne note saidOf ts′ since′
     delivered = go (getD (tallyAt ts c .marks) i false) refl (allMarks (set (tallyAt ts c .marks) i true)) refl
       where
-        f : Found cs ts s c now
+        f : Found cs ts s c second
         f = found
 
         w : Within (cutAt cs c)
@@ -322,44 +322,44 @@ module _ (cs : List Cut) (within : (c : ℕ) → c < length cs → Within (cutAt
         m′ = plus (f .there) (pieceOf (cutAt cs c) i)
 
         h′ : Holds (cutAt cs c) (set (tallyAt ts c .marks) i true) since′ m′
-        h′ = unfold since′ in holds-plus (cutAt cs c) w (tallyAt ts c .marks) ml (cond (begun (tallyAt ts c)) (tallyAt ts c .since) now) (f .there) (f .holds) i ic
+        h′ = unfold since′ in holds-plus (cutAt cs c) w (tallyAt ts c .marks) ml (cond (begun (tallyAt ts c)) (tallyAt ts c .opened) second) (f .there) (f .holds) i ic
 
-        done-is : (b : Bool) → allMarks (set (tallyAt ts c .marks) i true) ≡ b → done (marked (tallyAt ts c) i now) ≡ b
+        done-is : (b : Bool) → allMarks (set (tallyAt ts c .marks) i true) ≡ b → done (marked (tallyAt ts c) i second) ≡ b
         done-is b e = unfold done marked in e
 
         go : (a : Bool) → getD (tallyAt ts c .marks) i false ≡ a → (b : Bool) → allMarks (set (tallyAt ts c .marks) i true) ≡ b
-            → (saidOf (step cap s (pieceOf (cutAt cs c) i) now) ≡ dueOne cs ts (deliver c i now)) × Inv cs (note ts (deliver c i now)) (step cap s (pieceOf (cutAt cs c) i) now .store)
+            → (saidOf (step cap s (pieceOf (cutAt cs c) i) second) ≡ dueOne cs ts (deliver c i second)) × Inv cs (note ts (deliver c i second)) (step cap s (pieceOf (cutAt cs c) i) second .store)
         go true a b e =
-            let q : step cap s (pieceOf (cutAt cs c) i) now ≡ record { number = 54; out = none; store = s }
-            = step-answer f ∙ answer-repeat cap room s (f .at) (f .inside) (cutAt cs c) w (tallyAt ts c .marks) ml (cond (begun (tallyAt ts c)) (tallyAt ts c .since) now) (f .there) (f .holds) i ic a in
+            let q : step cap s (pieceOf (cutAt cs c) i) second ≡ record { number = 54; out = none; store = s }
+            = step-answer f ∙ answer-repeat cap room s (f .at) (f .inside) (cutAt cs c) w (tallyAt ts c .marks) ml (cond (begun (tallyAt ts c)) (tallyAt ts c .opened) second) (f .there) (f .holds) i ic a in
             rw (q, a) (refl, subst (λ (x : List Tally). Inv cs x s) (same-tallies a) v)
         go false a true e =
-            let q : step cap s (pieceOf (cutAt cs c) i) now ≡ record { number = 60; out = some (cutFrom (cutAt cs c)); store = set s (f .at) none }
-            = step-answer f ∙ answer-finished cap room s (f .at) (f .inside) (cutAt cs c) w (tallyAt ts c .marks) ml (cond (begun (tallyAt ts c)) (tallyAt ts c .since) now) (f .there) (f .holds) i ic a e in
-            let d : isOpen (marked (tallyAt ts c) i now) ≡ false = closed-of (marked (tallyAt ts c) i now) (done-is true e) in
+            let q : step cap s (pieceOf (cutAt cs c) i) second ≡ record { number = 60; out = some (cutFrom (cutAt cs c)); store = set s (f .at) none }
+            = step-answer f ∙ answer-finished cap room s (f .at) (f .inside) (cutAt cs c) w (tallyAt ts c .marks) ml (cond (begun (tallyAt ts c)) (tallyAt ts c .opened) second) (f .there) (f .holds) i ic a e in
+            let d : isOpen (marked (tallyAt ts c) i second) ≡ false = closed-of (marked (tallyAt ts c) i second) (done-is true e) in
             rw (q, a, done-is true e)
             (refl, set-inv f none (λ n z. absurd (none≢some none n refl z)) (λ o. absurd (false≢true (sym d ∙ o))) (sym d))
         go false a false e =
-            let q : step cap s (pieceOf (cutAt cs c) i) now ≡ record { number = 0; out = none; store = set s (f .at) (some m′) }
-            = step-answer f ∙ answer-kept cap room s (f .at) (f .inside) (cutAt cs c) w (tallyAt ts c .marks) ml (cond (begun (tallyAt ts c)) (tallyAt ts c .since) now) (f .there) (f .holds) i ic a e in
-            let d : isOpen (marked (tallyAt ts c) i now) ≡ true = open-of (marked (tallyAt ts c) i now) begun′ (done-is false e) in
-            let h″ : Holds (cutAt cs c) (marked (tallyAt ts c) i now .marks) (marked (tallyAt ts c) i now .since) m′ = unfold marked since′ in h′ in
+            let q : step cap s (pieceOf (cutAt cs c) i) second ≡ record { number = 0; out = none; store = set s (f .at) (some m′) }
+            = step-answer f ∙ answer-kept cap room s (f .at) (f .inside) (cutAt cs c) w (tallyAt ts c .marks) ml (cond (begun (tallyAt ts c)) (tallyAt ts c .opened) second) (f .there) (f .holds) i ic a e in
+            let d : isOpen (marked (tallyAt ts c) i second) ≡ true = open-of (marked (tallyAt ts c) i second) begun′ (done-is false e) in
+            let h″ : Holds (cutAt cs c) (marked (tallyAt ts c) i second .marks) (marked (tallyAt ts c) i second .opened) m′ = unfold marked since′ in h′ in
             rw (q, a, done-is false e) (
               refl,
               set-inv f (some m′)
-                  (λ n z. (d, subst (λ (x : Message). Holds (cutAt cs c) (marked (tallyAt ts c) i now .marks) (marked (tallyAt ts c) i now .since) x) (some-injective m′ n z) h″))
+                  (λ n z. (d, subst (λ (x : Message). Holds (cutAt cs c) (marked (tallyAt ts c) i second .marks) (marked (tallyAt ts c) i second .opened) x) (some-injective m′ n z) h″))
                   (λ o. (m′, refl, h′ .id)) (sym d),
             )
 
 -- A sweep of the schedule changes nothing.
-pub tidied : (cap : ℕ) (cs : List Cut) (ts : List Tally) (s : Store) (v : Inv cs ts s) (now : ℕ) → Allowed cs ts (tidy now)
-    → (saidOf (act cap cs s (tidy now)) ≡ dueOne cs ts (tidy now)) × Inv cs (note ts (tidy now)) (act cap cs s (tidy now) .store)
+pub tidied : (cap : ℕ) (cs : List Cut) (ts : List Tally) (s : Store) (v : Inv cs ts s) (second : ℕ) → Allowed cs ts (sweepAt second)
+    → (saidOf (act cap cs s (sweepAt second)) ≡ dueOne cs ts (sweepAt second)) × Inv cs (note ts (sweepAt second)) (act cap cs s (sweepAt second) .store)
 unfolding act dueOne saidOf note
-tidied cap cs ts s v now young = (refl, subst (λ (x : Store). Inv cs ts x) (sym (sweep-same now s fresh)) v)
+tidied cap cs ts s v second young = (refl, subst (λ (x : Store). Inv cs ts x) (sym (sweep-same second s fresh)) v)
   where
-    fresh : (k : ℕ) (m : Message) → getD s k none ≡ some m → now < m .opened + 30
+    fresh : (k : ℕ) (m : Message) → getD s k none ≡ some m → second < m .opened + 30
     fresh k m e =
         let o : (c : ℕ) × Owned cs ts m c = v .owned k m e in
-        let y : now < tallyAt ts (o .0) .since + 30 = young (o .0) (o .1 .is-open) in
-        let z : m .opened ≡ tallyAt ts (o .0) .since = o .1 .holds .opened in
+        let y : second < tallyAt ts (o .0) .opened + 30 = young (o .0) (o .1 .is-open) in
+        let z : m .opened ≡ tallyAt ts (o .0) .opened = o .1 .holds .opened in
         omega arith

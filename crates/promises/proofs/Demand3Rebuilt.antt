@@ -11,7 +11,7 @@ use lib.Seq.{getD-set-same, getD-set-other}
 use lib.Dec.{eqb}
 use native.Mathlib.Decide.{ℕ-discrete}
 use borrow.Author.Tests.{eq-eqb, ne-eqb, eqb-true, eqb-false}
-use Rattle.reassembly.specs.Store.{Message, Whole, idOf, numberOf, finalOf, bytesOf, isHeld, total, joined, messageOr, plus, badLength, badNumber, repeats, clashes, tooMuch, complete, wholeOf, tooShort}
+use Rattle.reassembly.specs.Store.{Message, Rebuilt, idOf, numberOf, finalOf, pieceBytes, isHeld, total, joined, messageOr, plus, badLength, badNumber, repeats, clashes, tooMuch, complete, rebuiltOf, tooShort}
 use Rattle.reassembly.proofs.Table.{held-of-length, total-le, length-joined}
 use Rattle.reassembly.proofs.Stores as Stores
 use Rattle.reassembly.proofs.Stores.{first-parts, follow-parts, Blank, message-new, plus-id, plus-opened, plus-last, plus-table, plus-first, plus-follow, length-good, first-good, follow-good, first-repeats, follow-repeats, complete-known, complete-unknown, whole-is, not-too-short}
@@ -23,10 +23,10 @@ abbrev pub top : Cut → ℕ
 top c = length (c .pieces) - 1
 
 -- m holds exactly the marked pieces of c.
-pub record Holds (c : Cut) (marks : List Bool) (since : ℕ) (m : Message) : Type 0 where
+pub record Holds (c : Cut) (marks : List Bool) (began : ℕ) (m : Message) : Type 0 where
   pub id : m .id ≡ c .id
-  pub opened : m .opened ≡ since
-  pub typ : getD marks 0 false ≡ true → m .typ ≡ c .typ
+  pub opened : m .opened ≡ began
+  pub kind : getD marks 0 false ≡ true → m .kind ≡ c .kind
   pub expires : getD marks 0 false ≡ true → m .expires ≡ c .expires
   pub last : m .last ≡ cond (getD marks (top c) false) (top c) 0
   pub size : length (m .table) ≡ 128
@@ -41,7 +41,7 @@ pub number-piece : (c : Cut) (i : ℕ) → numberOf (pieceOf c i) ≡ i
 number-piece c zero = first-parts _ _ _ _ .1
 number-piece c (suc i) = follow-parts _ _ _ _ .1
 
-pub bytes-piece : (c : Cut) (i : ℕ) → bytesOf (pieceOf c i) ≡ getD (c .pieces) i []
+pub bytes-piece : (c : Cut) (i : ℕ) → pieceBytes (pieceOf c i) ≡ getD (c .pieces) i []
 bytes-piece c zero = first-parts _ _ _ _ .3
 bytes-piece c (suc i) = follow-parts _ _ _ _ .3
 
@@ -50,20 +50,20 @@ final-piece c zero h = first-parts _ _ _ _ .2 ∙ sym (ne-eqb 1 (length (c .piec
 final-piece c (suc i) h = follow-parts _ _ _ _ .2
 
 -- A message of which no piece was marked: the new one holds it
-pub holds-new : (c : Cut) (marks : List Bool) (now : ℕ) → anyMark marks ≡ false → Holds c marks now (messageOr none (c .id) now)
-holds-new c marks now e =
-    let b : Blank (c .id) now (messageOr none (c .id) now) = message-new (c .id) now in
+pub holds-new : (c : Cut) (marks : List Bool) (second : ℕ) → anyMark marks ≡ false → Holds c marks second (messageOr none (c .id) second)
+holds-new c marks second e =
+    let b : Blank (c .id) second (messageOr none (c .id) second) = message-new (c .id) second in
     record {
       id = b .its-id;
       opened = b .opened;
-      typ = λ h. absurd (false≢true (sym (none-at marks 0 e) ∙ h));
+      kind = λ h. absurd (false≢true (sym (none-at marks 0 e) ∙ h));
       expires = λ h. absurd (false≢true (sym (none-at marks 0 e) ∙ h));
       last = rw (none-at marks (top c) e) (b .last);
       size = b .size;
       held = λ i. rw (none-at marks i e) (b .none-there i);
     }
 
-module _ (c : Cut) (w : Within c) (marks : List Bool) (ml : length marks ≡ length (c .pieces)) (since : ℕ) (m : Message) (h : Holds c marks since m) where
+module _ (c : Cut) (w : Within c) (marks : List Bool) (ml : length marks ≡ length (c .pieces)) (began : ℕ) (m : Message) (h : Holds c marks began m) where
   held-eq : (i : ℕ) → i < length marks → isHeld (getD (m .table) i []) ≡ getD marks i false
   held-eq i k = go (getD marks i false) refl
     where
@@ -93,11 +93,11 @@ module _ (c : Cut) (w : Within c) (marks : List Bool) (ml : length marks ≡ len
           complete-unknown m (h .last ∙ rw e refl) ∙ sym (not-all-at marks (top c) e (omega arith))
 
   -- and then what comes out is what was cut
-  pub whole-holds : allMarks marks ≡ true → wholeOf m ≡ cutFrom c
+  pub whole-holds : allMarks marks ≡ true → rebuiltOf m ≡ cutFrom c
   unfolding cutFrom
   whole-holds a =
       whole-is m (c .pieces) (omega (arith, l, two)) (omega (arith, h .size, w .most)) (λ i k. h .held i ∙ rw (all-at marks i a (omega arith)) refl)
-      ∙ λ i. record { typ = h .typ (all-at marks 0 a (omega (arith, two))) i; expires = h .expires (all-at marks 0 a (omega (arith, two))) i; bytes = joined (c .pieces) }
+      ∙ λ i. record { kind = h .kind (all-at marks 0 a (omega (arith, two))) i; expires = h .expires (all-at marks 0 a (omega (arith, two))) i; bytes = joined (c .pieces) }
     where
       two : 2 ≤ length (c .pieces)
       two = w .two
@@ -108,7 +108,7 @@ module _ (c : Cut) (w : Within c) (marks : List Bool) (ml : length marks ≡ len
   pub long-enough : (cap : ℕ) → 65535 ≤ cap → allMarks marks ≡ true → tooShort cap m ≡ false
   unfolding cutFrom
   long-enough cap k a =
-      let e : length (wholeOf m .bytes) ≡ total (c .pieces) = ap (λ (x : Whole). length (x .bytes)) (whole-holds a) ∙ length-joined (c .pieces) in
+      let e : length (rebuiltOf m .bytes) ≡ total (c .pieces) = ap (λ (x : Rebuilt). length (x .bytes)) (whole-holds a) ∙ length-joined (c .pieces) in
       not-too-short cap m (omega (arith, w .in-all))
 
 -- A piece of c arrives.
@@ -120,7 +120,7 @@ module _ (c : Cut) (w : Within c) where
   good-number zero ic = first-good _ _ _ _
   good-number (suc i) ic = follow-good _ (suc i) _ _ (omega arith) (omega (arith, w .most))
 
-module _ (c : Cut) (w : Within c) (marks : List Bool) (ml : length marks ≡ length (c .pieces)) (since : ℕ) (m : Message) (h : Holds c marks since m) where
+module _ (c : Cut) (w : Within c) (marks : List Bool) (ml : length marks ≡ length (c .pieces)) (began : ℕ) (m : Message) (h : Holds c marks began m) where
   -- the flag that the slot shows of a number
   flag-shown : (i : ℕ) → suc i < length (c .pieces) → getD marks (suc i) false ≡ true → eqb (m .last) (suc i) ≡ eqb (suc (suc i)) (length (c .pieces))
   flag-shown i ic e = go (ℕ-discrete (suc i) (top c))
@@ -136,7 +136,7 @@ module _ (c : Cut) (w : Within c) (marks : List Bool) (ml : length marks ≡ len
           apart false e′ = let l : m .last ≡ 0 = h .last ∙ rw e′ refl in ne-eqb (m .last) (suc i) (λ z. omega arith)
 
   pub repeats-marked : (i : ℕ) → i < length (c .pieces) → getD marks i false ≡ true → repeats m (pieceOf c i) ≡ true
-  repeats-marked zero ic e = first-repeats m _ _ _ _ (w .some-bytes 0 ic) (h .held 0 ∙ rw e refl) (h .typ e) (h .expires e)
+  repeats-marked zero ic e = first-repeats m _ _ _ _ (w .some-bytes 0 ic) (h .held 0 ∙ rw e refl) (h .kind e) (h .expires e)
   repeats-marked (suc i) ic e = follow-repeats m _ (suc i) _ _ (w .some-bytes (suc i) ic) (h .held (suc i) ∙ rw e refl) (flag-shown i ic e)
 
   -- The table with piece i in it
@@ -164,18 +164,18 @@ module _ (c : Cut) (w : Within c) (marks : List Bool) (ml : length marks ≡ len
           let t : top c ≢ i = λ e. eqb-false (suc i) (length (c .pieces)) q (omega arith) in
           rw (q, getD-set-other marks i (top c) true false t) (h .last)
 
-  head-plus : (i : ℕ) → getD (set marks i true) 0 false ≡ true → (plus m (pieceOf c i) .typ ≡ c .typ) × (plus m (pieceOf c i) .expires ≡ c .expires)
+  head-plus : (i : ℕ) → getD (set marks i true) 0 false ≡ true → (plus m (pieceOf c i) .kind ≡ c .kind) × (plus m (pieceOf c i) .expires ≡ c .expires)
   head-plus zero e = plus-first m _ _ _ _
   head-plus (suc i) e =
       let z : getD marks 0 false ≡ true = sym (getD-set-other marks (suc i) 0 true false (λ z. omega arith)) ∙ e in
-      (plus-follow m _ _ _ _ .0 ∙ h .typ z, plus-follow m _ _ _ _ .1 ∙ h .expires z)
+      (plus-follow m _ _ _ _ .0 ∙ h .kind z, plus-follow m _ _ _ _ .1 ∙ h .expires z)
 
-  pub holds-plus : (i : ℕ) → i < length (c .pieces) → Holds c (set marks i true) since (plus m (pieceOf c i))
+  pub holds-plus : (i : ℕ) → i < length (c .pieces) → Holds c (set marks i true) began (plus m (pieceOf c i))
   holds-plus i ic =
       record {
         id = plus-id m (pieceOf c i) ∙ h .id;
         opened = plus-opened m (pieceOf c i) ∙ h .opened;
-        typ = λ e. head-plus i e .0;
+        kind = λ e. head-plus i e .0;
         expires = λ e. head-plus i e .1;
         last = plus-last m (pieceOf c i) ∙ rw (number-piece c i, final-piece c i (w .two)) (last-plus i ic);
         size = ap length (table-is i) ∙ length-set (m .table) i (getD (c .pieces) i []) ∙ h .size;
@@ -206,5 +206,5 @@ module _ (c : Cut) (w : Within c) (marks : List Bool) (ml : length marks ≡ len
 
     pub not-too-much : tooMuch m (pieceOf c i) ≡ false
     not-too-much =
-        let a : total (plus m (pieceOf c i) .table) ≤ total (c .pieces) = total-holds c w (set marks i true) (length-set marks i true ∙ ml) since (plus m (pieceOf c i)) (holds-plus i ic) in
+        let a : total (plus m (pieceOf c i) .table) ≤ total (c .pieces) = total-holds c w (set marks i true) (length-set marks i true ∙ ml) began (plus m (pieceOf c i)) (holds-plus i ic) in
         Stores.not-too-much m (pieceOf c i) (rw (number-piece c i) (omega (arith, h .size, w .most))) free-place (omega (arith, w .in-all))

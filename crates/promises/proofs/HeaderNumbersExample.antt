@@ -11,13 +11,13 @@ use Rattle.wire.specs.Parts.{splice}
 use Rattle.wire.specs.Numbers.{Bytes, littleBytes, bigBytes}
 use Rattle.wire.proofs.Tests.{and-both}
 use Rattle.header.specs.Kinds.{isListed, isVersion, needOf}
-use Rattle.header.specs.Unmasking.{typeOf}
-use Rattle.header.specs.Reading.{leftBy}
-use Rattle.header.specs.Writing.{writeNumber, byte13, byte14, frontBytes, idBytes, headBytes, plain}
+use Rattle.header.specs.Unmasking.{packetKind}
+use Rattle.header.specs.Reading.{packetAfterRead}
+use Rattle.header.specs.Writing.{writeNumber, byte13, byte14, frontBytes, idBytes, headerBytes, plain}
 use Rattle.header.specs.RoundTrip.{NoOthers, own}
 use Rattle.header.proofs.RoundTrip.{bytes-written}
 use Rattle.header.proofs.Widths.{length-left, write-left}
-use Rattle.numbers.specs.Headers.{fieldsFrom, Passable}
+use Rattle.numbers.specs.Headers.{fieldsFrom, NumbersInWidth}
 use Rattle.numbers.proofs.HeaderLaws.{answer-number}
 use Rattle.promises.specs.HeaderNumbers.{readAnswer, lentNumbers, writeAnswer, writePacket}
 use Rattle.promises.proofs.HeaderNumbers.{header-numbers}
@@ -30,7 +30,7 @@ numbers = 9 ∷ 2 ∷ 2 ∷ 0 ∷ 0 ∷ 0 ∷ 5 ∷ 6 ∷ 7 ∷ 8 ∷ 0 ∷ []
 abbrev empty : List ℕ
 empty = replicate 56 0
 
-pub fitting : Passable numbers
+pub fitting : NumbersInWidth numbers
 fitting =
     record {
       kind = omega arith;
@@ -54,7 +54,7 @@ pub head : List ℕ
 head = 6 ∷ 0 ∷ 0 ∷ 0 ∷ 0 ∷ 0 ∷ 0 ∷ 0 ∷ 0 ∷ 0 ∷ 0 ∷ 5 ∷ 9 ∷ 2 ∷ 2 ∷ 0 ∷ 7 ∷ 0 ∷ 0 ∷ 0 ∷ 0 ∷ 0 ∷ 0 ∷ 0 ∷ 8 ∷ replicate 31 0
 
 plain-is : plain (fieldsFrom numbers) empty ≡ head
-unfolding plain splice headBytes frontBytes idBytes byte13 byte14 littleBytes bigBytes head
+unfolding plain splice headerBytes frontBytes idBytes byte13 byte14 littleBytes bigBytes head
 plain-is = refl
 
 below : List ℕ → Bool
@@ -75,7 +75,7 @@ no-others : NoOthers head
 unfolding head
 no-others = record { last = refl; short = λ e. absurd (false≢true e); flags = λ e. omega arith }
 
-head-need : needOf (typeOf head) ≤ length head
+head-need : needOf (packetKind head) ≤ length head
 unfolding head needOf
 head-need = omega arith
 
@@ -84,7 +84,7 @@ module _ (k1 k2 out : List ℕ) where
   packet = writePacket k1 k2 numbers empty
 
   -- what was written is read, with the numbers that it was written by
-  pub read : (readAnswer k1 k2 packet ≡ 0) × (lentNumbers k1 k2 packet out ≡ numbers) × (leftBy k1 k2 packet ≡ head)
+  pub read : (readAnswer k1 k2 packet ≡ 0) × (lentNumbers k1 k2 packet out ≡ numbers) × (packetAfterRead k1 k2 packet ≡ head)
   unfolding own
   read =
       let r = header-numbers .written-read k1 k2 numbers empty out fitting given in
@@ -99,7 +99,7 @@ module _ (k1 k2 out : List ℕ) where
   packet-length = sym (length-left k1 k2 packet (sym (answer-number k1 k2 packet) ∙ read .0)) ∙ ap length (read .2)
 
   -- so it meets what writing it again asks for, and is written again
-  pub again : (writeAnswer (lentNumbers k1 k2 packet out) (leftBy k1 k2 packet) ≡ 0) × (writePacket k1 k2 (lentNumbers k1 k2 packet out) (leftBy k1 k2 packet) ≡ packet)
+  pub again : (writeAnswer (lentNumbers k1 k2 packet out) (packetAfterRead k1 k2 packet) ≡ 0) × (writePacket k1 k2 (lentNumbers k1 k2 packet out) (packetAfterRead k1 k2 packet) ≡ packet)
   again =
-      let need : needOf (typeOf (leftBy k1 k2 packet)) ≤ length packet = rw (read .2, packet-length) head-need in
+      let need : needOf (packetKind (packetAfterRead k1 k2 packet)) ≤ length packet = rw (read .2, packet-length) head-need in
       header-numbers .read-written k1 k2 packet out packet-bytes (read .0) (subst NoOthers (sym (read .2)) no-others) need

@@ -4,7 +4,7 @@ use Rattle.wire.specs.Parts.{part}
 use Rattle.wire.specs.Numbers.{little, big, bigAt}
 use Rattle.blocks.specs.Extent.{listed, firstFragment, pairsIn, address, takenAt, extentAt}
 use Rattle.blocks.specs.Reading.{blockAt, readAt}
-use Rattle.listing.specs.Listing.{blocksFrom, blocksOf}
+use Rattle.blocks_listing.specs.Listing.{blocksFrom, blocksOf}
 use Rattle.acks.proofs.Cases.{case-c, case-h, case-i, case-j, case-k}
 use Rattle.reassembly.proofs.Cases.{case-l}
 use Rattle.promises.specs.Twelve.{Twelve}

@@ -17,14 +17,14 @@ use types.Run.{OneOf}
 use Rattle.wire.specs.Numbers.{Bytes}
 use Rattle.header.specs.declared.Fields.{Fields}
 use Rattle.header.specs.declared.Answer.the-variants as Header
-use Rattle.header.specs.Reading.{answerOf, leftBy}
-use Rattle.header.specs.Writing.{writeNumber, leftByWrite}
+use Rattle.header.specs.Reading.{headerAnswer, packetAfterRead}
+use Rattle.header.specs.Writing.{writeNumber, packetAfterWrite}
 use Rattle.blocks.specs.declared.Block.{Block}
 use Rattle.blocks.specs.declared.Read.the-variants as Got
 use Rattle.blocks.specs.declared.Written.the-variants as Wrote
 use Rattle.blocks.specs.Reading.{readAt}
-use Rattle.listing.specs.declared.Entry.{Entry}
-use Rattle.listing.specs.Listing.{no, listing, filled}
+use Rattle.blocks_listing.specs.declared.Entry.{Entry}
+use Rattle.blocks_listing.specs.Listing.{no, listing, entriesAfter}
 use Rattle.blocks.specs.Writing.{writing, roomAfter}
 use Rattle.acks.specs.declared.Tracker.{Tracker}
 use Rattle.acks.specs.declared.AckInfo.{AckInfo}
@@ -35,7 +35,7 @@ use Rattle.acks.specs.AckBlocks.{ackWriting, ackRoom}
 use Rattle.acks.specs.Expanding.{expandOf, listAfter}
 use Rattle.reassembly.specs.declared.Label.{Label}
 use Rattle.reassembly.specs.Calls.{After, after, firstCall, followOnCall, renewal, renewed}
-use Rattle.messages.specs.Delivery.{left, nothing, delivered}
+use Rattle.messages.specs.Delivery.{deliveryWith, nothing, delivered}
 
 -- An answer that is a number refuses where it is not 0; the store's where it is not 60 either, a finished message.
 abbrev pub Refuses : ℕ → Type 0
@@ -45,106 +45,106 @@ abbrev pub StoreRefuses : ℕ → Type 0
 StoreRefuses n = Refuses n × (n ≡ 60 → ⊥)
 
 -- reading a header: 20 to 24, and the packet stays
-abbrev pub HeaderRead : Type 0
-HeaderRead =
-    (k1 k2 p : List ℕ) (n : ℕ) → answerOf k1 k2 p ≡ Header.Refused n
-    → OneOf (20 ∷ 21 ∷ 22 ∷ 23 ∷ 24 ∷ []) n × (leftBy k1 k2 p ≡ p)
+abbrev pub HeaderReadRefused : Type 0
+HeaderReadRefused =
+    (k1 k2 p : List ℕ) (n : ℕ) → headerAnswer k1 k2 p ≡ Header.Refused n
+    → OneOf (20 ∷ 21 ∷ 22 ∷ 23 ∷ 24 ∷ []) n × (packetAfterRead k1 k2 p ≡ p)
 
 -- writing a header: 20, 21, 22, 24 or 25, and the packet stays
-abbrev pub HeaderWritten : Type 0
-HeaderWritten =
+abbrev pub HeaderWriteRefused : Type 0
+HeaderWriteRefused =
     (k1 k2 : List ℕ) (f : Fields) (p : List ℕ) → Refuses (writeNumber f (length p))
-    → OneOf (20 ∷ 21 ∷ 22 ∷ 24 ∷ 25 ∷ []) (writeNumber f (length p)) × (leftByWrite k1 k2 f p ≡ p)
+    → OneOf (20 ∷ 21 ∷ 22 ∷ 24 ∷ 25 ∷ []) (writeNumber f (length p)) × (packetAfterWrite k1 k2 f p ≡ p)
 
 -- reading a block: 1 to 9, at the block's own place
-abbrev pub BlockRead : Type 0
-BlockRead =
+abbrev pub BlockReadRefused : Type 0
+BlockReadRefused =
     (s : List ℕ) (at n place : ℕ) → readAt s at ≡ Got.Refused n place
     → OneOf (1 ∷ 2 ∷ 3 ∷ 4 ∷ 5 ∷ 6 ∷ 7 ∷ 8 ∷ 9 ∷ []) n × (place ≡ at)
 
 -- listing a payload: 1 to 10, and every record of the list stays
-abbrev pub BlocksListed : Type 0
-BlocksListed =
+abbrev pub BlockListRefused : Type 0
+BlockListRefused =
     (s : List ℕ) (list : List Entry) (n place : ℕ) → listing (length list) s ≡ no n place
-    → OneOf (1 ∷ 2 ∷ 3 ∷ 4 ∷ 5 ∷ 6 ∷ 7 ∷ 8 ∷ 9 ∷ 10 ∷ []) n × (filled (listing (length list) s) list ≡ list)
+    → OneOf (1 ∷ 2 ∷ 3 ∷ 4 ∷ 5 ∷ 6 ∷ 7 ∷ 8 ∷ 9 ∷ 10 ∷ []) n × (entriesAfter (listing (length list) s) list ≡ list)
 
 -- writing a block: 30 to 32, and the room stays
-abbrev pub BlockWritten : Type 0
-BlockWritten =
+abbrev pub BlockWriteRefused : Type 0
+BlockWriteRefused =
     (b : Block) (body room : List ℕ) (n : ℕ) → writing b body (length room) ≡ Wrote.Refused n
     → OneOf (30 ∷ 31 ∷ 32 ∷ []) n × (roomAfter b body room ≡ room)
 
 -- registering a number by value: 40, 42 or 43, and the tracker that is returned is the one that was given
-abbrev pub Registered : Type 0
-Registered =
+abbrev pub RegisterRefused : Type 0
+RegisterRefused =
     (t : Tracker) (n : ℕ) → Refuses (registerOf t n .answer)
     → OneOf (40 ∷ 42 ∷ 43 ∷ []) (registerOf t n .answer) × (registerOf t n .tracker ≡ t)
 
 -- registering it in place, on a record of any bytes: these and 59, and the record stays
-abbrev pub RegisteredThere : Type 0
-RegisteredThere =
+abbrev pub RegisterThereRefused : Type 0
+RegisterThereRefused =
     (rec : List ℕ) (n : ℕ) → Bytes rec → Refuses (registerThere rec n)
     → OneOf (40 ∷ 42 ∷ 43 ∷ 59 ∷ []) (registerThere rec n) × (recordAfter rec n ≡ rec)
 
 -- asking for a report: 41, and 59 in place; asking whether a number is a duplicate: no, yes, or 59
-abbrev pub Asked : Type 0
-Asked =
+abbrev pub AskRefused : Type 0
+AskRefused =
     ((t : Tracker) → Refuses (ackInfo t .number) → ackInfo t .number ≡ 41)
     × ((rec : List ℕ) → Refuses (reportThere rec .number) → OneOf (41 ∷ 59 ∷ []) (reportThere rec .number))
     × ((rec : List ℕ) (n : ℕ) → OneOf (0 ∷ 1 ∷ 59 ∷ []) (duplicateThere rec n))
 
 -- the report as an Ack block: 30, 41 or 59, and the room stays, whatever the report
-abbrev pub AckWritten : Type 0
-AckWritten =
+abbrev pub AckBlockRefused : Type 0
+AckBlockRefused =
     ((rec : List ℕ) (room n : ℕ) → ackWriting (reportThere rec) room ≡ Wrote.Refused n → OneOf (30 ∷ 41 ∷ 59 ∷ []) n)
     × ((r : AckInfo) (room : List ℕ) (n : ℕ) → ackWriting r (length room) ≡ Wrote.Refused n → ackRoom r room ≡ room)
 
 -- expanding an acknowledgement: 44 or 46, and the list stays
-abbrev pub AckExpanded : Type 0
-AckExpanded =
+abbrev pub ExpandRefused : Type 0
+ExpandRefused =
     (through count : ℕ) (pairs list : List ℕ) → Refuses (expandOf through count pairs (length list) .number)
     → OneOf (44 ∷ 46 ∷ []) (expandOf through count pairs (length list) .number) × (listAfter through count pairs list ≡ list)
 
 -- a new store: 59, and the record stays
-abbrev pub StoreRenewed : Type 0
-StoreRenewed = (rec : List ℕ) → Refuses (renewal rec) → (renewal rec ≡ 59) × (renewed rec ≡ rec)
+abbrev pub StoreNewRefused : Type 0
+StoreNewRefused = (rec : List ℕ) → Refuses (renewal rec) → (renewal rec ≡ 59) × (renewed rec ≡ rec)
 
 -- what a store's call leaves is a refusal of some numbers, and record, room and assembly buffer as they were, byte for byte
 abbrev pub StoreStays : List ℕ → List ℕ → List ℕ → List ℕ → After → Type 0
 StoreStays numbers rec room out x = OneOf numbers (x .reply .number) × (x ≡ after (x .reply) rec room out)
 
 -- a first piece: 50, 52 to 56, 59
-abbrev pub FirstTaken : Type 0
-FirstTaken =
+abbrev pub FirstRefused : Type 0
+FirstRefused =
     (rec room out : List ℕ) (l : Label) (second : ℕ) (v : List ℕ) → StoreRefuses (firstCall rec room out l second v .reply .number)
     → StoreStays (50 ∷ 52 ∷ 53 ∷ 54 ∷ 55 ∷ 56 ∷ 59 ∷ []) rec room out (firstCall rec room out l second v)
 
 -- a follow-on piece: these and 51
-abbrev pub FollowOnTaken : Type 0
-FollowOnTaken =
+abbrev pub FollowOnRefused : Type 0
+FollowOnRefused =
     (rec room out : List ℕ) (l : Label) (second : ℕ) (v : List ℕ) → StoreRefuses (followOnCall rec room out l second v .reply .number)
     → StoreStays (50 ∷ 51 ∷ 52 ∷ 53 ∷ 54 ∷ 55 ∷ 56 ∷ 59 ∷ []) rec room out (followOnCall rec room out l second v)
 
 -- delivering the block at a place: the block's refusals or its piece's, all with the block's place, and record, room and assembly buffer stay
-abbrev pub Delivered : Type 0
-Delivered =
+abbrev pub DeliverRefused : Type 0
+DeliverRefused =
     (s : List ℕ) (at : ℕ) (rec room out : List ℕ) (second : ℕ) → StoreRefuses (delivered s at rec room out second (readAt s at) .received .number)
     → OneOf (1 ∷ 2 ∷ 3 ∷ 4 ∷ 5 ∷ 6 ∷ 7 ∷ 8 ∷ 9 ∷ 50 ∷ 51 ∷ 52 ∷ 53 ∷ 54 ∷ 55 ∷ 56 ∷ 59 ∷ []) (delivered s at rec room out second (readAt s at) .received .number)
-    × (delivered s at rec room out second (readAt s at) ≡ left (nothing (delivered s at rec room out second (readAt s at) .received .number) at) rec room out)
+    × (delivered s at rec room out second (readAt s at) ≡ deliveryWith (nothing (delivered s at rec room out second (readAt s at) .received .number) at) rec room out)
 
 -- Demand 1: a part for each kind of call
 pub record Demand1 : Type 0 where
-  pub header-read : HeaderRead
-  pub header-written : HeaderWritten
-  pub block-read : BlockRead
-  pub blocks-listed : BlocksListed
-  pub block-written : BlockWritten
-  pub registered : Registered
-  pub registered-there : RegisteredThere
-  pub asked : Asked
-  pub ack-written : AckWritten
-  pub ack-expanded : AckExpanded
-  pub store-renewed : StoreRenewed
-  pub first-taken : FirstTaken
-  pub follow-on-taken : FollowOnTaken
-  pub delivery : Delivered
+  pub header-read : HeaderReadRefused
+  pub header-written : HeaderWriteRefused
+  pub block-read : BlockReadRefused
+  pub blocks-listed : BlockListRefused
+  pub block-written : BlockWriteRefused
+  pub registered : RegisterRefused
+  pub registered-there : RegisterThereRefused
+  pub asked : AskRefused
+  pub ack-written : AckBlockRefused
+  pub ack-expanded : ExpandRefused
+  pub store-renewed : StoreNewRefused
+  pub first-taken : FirstRefused
+  pub follow-on-taken : FollowOnRefused
+  pub delivery : DeliverRefused

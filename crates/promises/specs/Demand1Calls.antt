@@ -6,17 +6,17 @@ use lib.ListN.{length}
 use types.Run.{OneOf}
 use Rattle.header.specs.declared.Answer.{Answer}
 use Rattle.blocks.specs.declared.Read.{Read}
-use Rattle.listing.specs.declared.Entry.{Entry}
-use Rattle.listing.specs.Listing.{Listing, answerOf, filled}
+use Rattle.blocks_listing.specs.declared.Entry.{Entry}
+use Rattle.blocks_listing.specs.Listing.{Listing, listingAnswer, entriesAfter}
 use Rattle.acks.specs.declared.AckInfo.{AckInfo}
 use Rattle.acks.specs.AckBlocks.{ackWriting, ackRoom}
-use Rattle.outcomes.specs.Outcomes.{written, readOutcome}
-use Rattle.outcomes.specs.Listings.{outcome}
+use Rattle.numbers_outcomes.specs.Outcomes.{writeOutcome, readOutcome}
+use Rattle.numbers_outcomes.specs.Listings.{listOutcome}
 use Rattle.numbers.specs.Headers.{answerNumber, answerNumbers}
 use Rattle.numbers.specs.BlockNumbers.{readNumbers}
 use Rattle.numbers.specs.BlockFields.{writingBy, roomBy}
-use Rattle.outcomes.specs.Trackers.{newAnswer, newRecord, reportNumbers, reportPairs}
-use Rattle.outcomes.specs.Deliveries.{deliveryOutcome, deliveryNumbers, deliveredAt}
+use Rattle.numbers_outcomes.specs.Trackers.{newAnswer, newRecord, reportNumbers, reportPairs}
+use Rattle.numbers_outcomes.specs.Deliveries.{deliveryOutcome, deliveryNumbers, deliveredAt}
 use Rattle.promises.specs.Demand1.{Refuses, StoreRefuses}
 
 pub record Demand1Calls : Type 0 where
@@ -26,16 +26,16 @@ pub record Demand1Calls : Type 0 where
   pub block-numbers : (r : Read) (out : List ℕ) → Refuses (readOutcome r .number) → readNumbers r out ≡ out
   -- strawhub_block_write: 30 to 32, and the room stays
   pub block-room :
-      (kind : ℕ) (fields bytes room : List ℕ) → Refuses (written (writingBy kind fields bytes (length room)) .number)
-      → OneOf (30 ∷ 31 ∷ 32 ∷ []) (written (writingBy kind fields bytes (length room)) .number) × (roomBy kind fields bytes room ≡ room)
+      (kind : ℕ) (fields bytes room : List ℕ) → Refuses (writeOutcome (writingBy kind fields bytes (length room)) .number)
+      → OneOf (30 ∷ 31 ∷ 32 ∷ []) (writeOutcome (writingBy kind fields bytes (length room)) .number) × (roomBy kind fields bytes room ≡ room)
   -- strawhub_block_list, its records
-  pub records : (x : Listing) (list : List Entry) → Refuses (outcome (answerOf x) .number) → filled x list ≡ list
+  pub records : (x : Listing) (list : List Entry) → Refuses (listOutcome (listingAnswer x) .number) → entriesAfter x list ≡ list
   -- strawhub_tracker_new: 59, and the record stays
   pub new-tracker : (rec : List ℕ) → Refuses (newAnswer rec) → (newAnswer rec ≡ 59) × (newRecord rec ≡ rec)
   -- strawhub_tracker_report, its three numbers and its pairs
   pub report : (r : AckInfo) (out pairs : List ℕ) → Refuses (r .number) → (reportNumbers r out ≡ out) × (reportPairs r pairs ≡ pairs)
   -- strawhub_tracker_ack_block, its room
-  pub ack-room : (r : AckInfo) (room : List ℕ) → Refuses (written (ackWriting r (length room)) .number) → ackRoom r room ≡ room
+  pub ack-room : (r : AckInfo) (room : List ℕ) → Refuses (writeOutcome (ackWriting r (length room)) .number) → ackRoom r room ≡ room
   -- strawhub_block_deliver: the number is that of what was received, the value the block's place, whether the block or the store refused; its six numbers
   pub told :
       (s : List ℕ) (at : ℕ) (rec room out : List ℕ) (second : ℕ) (told : List ℕ) → StoreRefuses (deliveryOutcome (deliveredAt s at rec room out second .received) .number)

@@ -1,5 +1,5 @@
 -- Demand 2 of the C calls: from a new record on, after any history of strawhub_tracker_register.
--- `registerThere` and `recordAll`, `duplicateThere`, `reportThere` with `reportNumbers` and `reportPairs`, `written`, `ackWriting` and `ackRoom`, `readAt`, `expandOf` and `listAfter` are what the contracts of the calls say.
+-- `registerThere` and `recordAll`, `duplicateThere`, `reportThere` with `reportNumbers` and `reportPairs`, `writeOutcome`, `ackWriting` and `ackRoom`, `readAt`, `expandOf` and `listAfter` are what the contracts of the calls say.
 use mathlib.Core.Path.{_≡_}
 use mathlib.Core.Bool.{cond}
 use mathlib.Core.List.{List, [], _∷_}
@@ -13,9 +13,9 @@ use Rattle.acks.specs.History.{Packets, answerTo, among, received, highestSeen,
 use Rattle.acks.specs.Recorded.{trackerAt, registerThere, recordAll, duplicateThere, reportThere}
 use Rattle.acks.specs.AckBlocks.{ackWriting, ackRoom}
 use Rattle.acks.specs.declared.AckInfo.{AckInfo}
-use Rattle.outcomes.specs.Outcomes.{outcome, written}
-use Rattle.outcomes.specs.Trackers.{newRecord, reportNumbers, reportPairs}
-use Rattle.promises.specs.Acks.{after}
+use Rattle.numbers_outcomes.specs.Outcomes.{outcome, writeOutcome}
+use Rattle.numbers_outcomes.specs.Trackers.{newRecord, reportNumbers, reportPairs}
+use Rattle.promises.specs.Acks.{trackerAfter}
 use Rattle.promises.specs.Demand2.{ExpandsTo}
 
 -- a new record: its first 259 bytes are zeros
@@ -31,7 +31,7 @@ pub record Unreported (r : AckInfo) (out pairs room : List ℕ) : Type 0 where
   pub is-41 : r .number ≡ 41
   pub numbers-stay : reportNumbers r out ≡ out
   pub pairs-stay : reportPairs r pairs ≡ pairs
-  pub block-41 : written (ackWriting r (length room)) ≡ outcome 41 0
+  pub block-41 : writeOutcome (ackWriting r (length room)) ≡ outcome 41 0
   pub room-stays : ackRoom r room ≡ room
 
 -- a report as strawhub_tracker_report lends it, in numbers that strawhub_ack_expand takes, names exactly the newest
@@ -43,14 +43,14 @@ pub record Reported (calls : List ℕ) (r : AckInfo) (out pairs list : List ℕ)
 
 -- its Ack block as strawhub_tracker_ack_block writes it, read back where it stands, names the same
 pub record Sent (calls : List ℕ) (r : AckInfo) (room list : List ℕ) : Type 0 where
-  pub wrote : written (ackWriting r (length room)) ≡ outcome 0 (8 + r .len)
+  pub wrote : writeOutcome (ackWriting r (length room)) ≡ outcome 0 (8 + r .len)
   pub read : readAt (ackRoom r room) 0 ≡ Got.Block (Body.Ack (highestSeen calls) (r .count) (bytesAt 8 (r .len))) (5 + r .len) (8 + r .len)
   pub exact : ExpandsTo (highestSeen calls) (r .count) (part (ackRoom r room) 8 (r .len)) list (newest calls)
 
 -- what the calls find in a record that a history of registrations left, where rec is the record that it began with
-pub record OutcomeOfTracker (rec calls left : List ℕ) : Type 0 where
+pub record TrackerTells (rec calls left : List ℕ) : Type 0 where
   -- it holds the tracker that the calls by value make
-  pub holds : trackerAt left ≡ after calls
+  pub holds : trackerAt left ≡ trackerAfter calls
   -- the bytes behind the 259th are as they were
   pub behind : (length left ≡ length rec) × (drop 259 left ≡ drop 259 rec)
   -- registering answers 40, 42, 43 or 0 by what was seen and received
@@ -68,4 +68,4 @@ pub record OutcomeOfTracker (rec calls left : List ℕ) : Type 0 where
 
 -- Demand 2, of the calls: packet numbers have four bytes
 abbrev pub Demand2Calls : Type 0
-Demand2Calls = (rec calls : List ℕ) → Fresh rec → Packets calls → OutcomeOfTracker rec calls (recordAll rec calls)
+Demand2Calls = (rec calls : List ℕ) → Fresh rec → Packets calls → TrackerTells rec calls (recordAll rec calls)

@@ -6,12 +6,12 @@ use mathlib.Core.Option.{Option, none, some}
 use Prim.Native.Nat.{ℕ, zero, suc, _+_, _≤_, _<_}
 use lib.ListN.{length, getD, set, replicate}
 use lib.Dec.{eqb}
-use Rattle.reassembly.specs.Store.{Piece, first, follow, Store, empty, Whole, Answer, total, joined, step, sweep}
+use Rattle.reassembly.specs.Store.{Piece, first, follow, Store, empty, Rebuilt, Answer, total, joined, step, sweep}
 
 -- A message that was cut: its id, its head, and its pieces in order. The bytes it was cut from are `joined pieces`.
 pub record Cut : Type 0 where
   pub id : ℕ
-  pub typ : ℕ
+  pub kind : ℕ
   pub expires : ℕ
   pub pieces : List (List ℕ)
 
@@ -25,27 +25,27 @@ pub record Within (c : Cut) : Type 0 where
 
 -- Piece i of a cut message: number 0 goes with the head, the others with the mark of the last.
 abbrev pub pieceOf : Cut → ℕ → Piece
-pieceOf c zero = first (c .id) (c .typ) (c .expires) (getD (c .pieces) 0 [])
+pieceOf c zero = first (c .id) (c .kind) (c .expires) (getD (c .pieces) 0 [])
 pieceOf c (suc i) = follow (c .id) (suc i) (eqb (suc (suc i)) (length (c .pieces))) (getD (c .pieces) (suc i) [])
 
-unfoldable pub cutFrom : Cut → Whole
-cutFrom c = record { typ = c .typ; expires = c .expires; bytes = joined (c .pieces) }
+unfoldable pub cutFrom : Cut → Rebuilt
+cutFrom c = record { kind = c .kind; expires = c .expires; bytes = joined (c .pieces) }
 
 abbrev pub noCut : Cut
-noCut = record { id = 0; typ = 0; expires = 0; pieces = [] }
+noCut = record { id = 0; kind = 0; expires = 0; pieces = [] }
 
 -- What happens: piece i of message c of the list arrives at a second; a sweep at a second.
 pub data Event : Type 0 where
-  deliver : (c i now : ℕ) → Event
-  tidy : (now : ℕ) → Event
+  deliver : (c i second : ℕ) → Event
+  sweepAt : (second : ℕ) → Event
 
 -- The tally of one message: which of its pieces were delivered so far, and the second of the first of them.
 pub record Tally : Type 0 where
   pub marks : List Bool
-  pub since : ℕ
+  pub opened : ℕ
 
 abbrev pub noTally : Tally
-noTally = record { marks = []; since = 0 }
+noTally = record { marks = []; opened = 0 }
 
 abbrev pub anyMark : List Bool → Bool
 anyMark [] = false
@@ -66,18 +66,18 @@ unfoldable pub isOpen : Tally → Bool
 isOpen t = begun t && not (done t)
 
 unfoldable pub marked : Tally → ℕ → ℕ → Tally
-marked t i now = record { marks = set (t .marks) i true; since = cond (begun t) (t .since) now }
+marked t i second = record { marks = set (t .marks) i true; opened = cond (begun t) (t .opened) second }
 
 -- The tallies of all messages, and what an event makes of them
 unfoldable pub untouched : Cut → Tally
-untouched c = record { marks = replicate (length (c .pieces)) false; since = 0 }
+untouched c = record { marks = replicate (length (c .pieces)) false; opened = 0 }
 
 unfoldable pub start : List Cut → List Tally
 start cs = map untouched cs
 
 unfoldable pub note : List Tally → Event → List Tally
-note ts (deliver c i now) = set ts c (marked (getD ts c noTally) i now)
-note ts (tidy now) = ts
+note ts (deliver c i second) = set ts c (marked (getD ts c noTally) i second)
+note ts (sweepAt second) = ts
 
 abbrev pub count : {A : Type 0} → (A → Bool) → List A → ℕ
 count f [] = 0
@@ -85,8 +85,8 @@ count f (x ∷ xs) = cond (f x) 1 0 + count f xs
 
 -- The rules of a schedule. A piece is one of a message that has not come out yet; a sweep removes no open message;
 abbrev pub Allowed : List Cut → List Tally → Event → Type 0
-Allowed cs ts (deliver c i now) = (c < length cs) × (i < length (getD cs c noCut .pieces)) × (done (getD ts c noTally) ≡ false)
-Allowed cs ts (tidy now) = (c : ℕ) → isOpen (getD ts c noTally) ≡ true → now < getD ts c noTally .since + 30
+Allowed cs ts (deliver c i second) = (c < length cs) × (i < length (getD cs c noCut .pieces)) × (done (getD ts c noTally) ≡ false)
+Allowed cs ts (sweepAt second) = (c : ℕ) → isOpen (getD ts c noTally) ≡ true → second < getD ts c noTally .opened + 30
 
 -- never more than 16 are open, and no two open ones have one id;
 pub record Orderly (cs : List Cut) (ts : List Tally) : Type 0 where
@@ -101,17 +101,17 @@ Schedule cs ts (e ∷ es) = Allowed cs ts e × Orderly cs (note ts e) × Schedul
 -- What is said at an event: a number, and perhaps a message.
 pub record Said : Type 0 where
   pub number : ℕ
-  pub out : Option Whole
+  pub out : Option Rebuilt
 
 -- What the demand says of each event: a repeat is 54; the last missing piece brings its message out; any other piece is kept.
 unfoldable pub dueOne : List Cut → List Tally → Event → Said
-dueOne cs ts (deliver c i now) =
+dueOne cs ts (deliver c i second) =
     cond (getD (getD ts c noTally .marks) i false)
     (record { number = 54; out = none })
-    (cond (done (marked (getD ts c noTally) i now))
+    (cond (done (marked (getD ts c noTally) i second))
     (record { number = 60; out = some (cutFrom (getD cs c noCut)) })
     (record { number = 0; out = none }))
-dueOne cs ts (tidy now) = record { number = 0; out = none }
+dueOne cs ts (sweepAt second) = record { number = 0; out = none }
 
 abbrev pub due : List Cut → List Tally → List Event → List Said
 due cs ts [] = []
@@ -119,8 +119,8 @@ due cs ts (e ∷ es) = dueOne cs ts e ∷ due cs (note ts e) es
 
 -- What the store says and becomes
 unfoldable pub act : ℕ → List Cut → Store → Event → Answer
-act cap cs s (deliver c i now) = step cap s (pieceOf (getD cs c noCut) i) now
-act cap cs s (tidy now) = record { number = 0; out = none; store = sweep now s }
+act cap cs s (deliver c i second) = step cap s (pieceOf (getD cs c noCut) i) second
+act cap cs s (sweepAt second) = record { number = 0; out = none; store = sweep second s }
 
 unfoldable pub saidOf : Answer → Said
 saidOf a = record { number = a .number; out = a .out }
@@ -129,14 +129,14 @@ abbrev pub said : ℕ → List Cut → Store → List Event → List Said
 said cap cs s [] = []
 said cap cs s (e ∷ es) = saidOf (act cap cs s e) ∷ said cap cs (act cap cs s e .store) es
 
-abbrev pub final : ℕ → List Cut → Store → List Event → Store
-final cap cs s [] = s
-final cap cs s (e ∷ es) = final cap cs (act cap cs s e .store) es
+abbrev pub storeAfter : ℕ → List Cut → Store → List Event → Store
+storeAfter cap cs s [] = s
+storeAfter cap cs s (e ∷ es) = storeAfter cap cs (act cap cs s e .store) es
 
 -- How often message c came out: the pieces of c that were answered by 60
 abbrev pub timesOne : ℕ → Event → Said → ℕ
-timesOne c (deliver d i now) r = cond (eqb d c && eqb (r .number) 60) 1 0
-timesOne c (tidy now) r = 0
+timesOne c (deliver d i second) r = cond (eqb d c && eqb (r .number) 60) 1 0
+timesOne c (sweepAt second) r = 0
 
 abbrev pub times : ℕ → List Event → List Said → ℕ
 times c [] rs = 0
@@ -144,10 +144,10 @@ times c (e ∷ es) [] = 0
 times c (e ∷ es) (r ∷ rs) = timesOne c e r + times c es rs
 
 -- The outcome of a schedule: every event is answered as is due, every message came out once, and the store is empty again.
-pub record Outcome (cap : ℕ) (cs : List Cut) (es : List Event) : Type 0 where
+pub record Fulfilled (cap : ℕ) (cs : List Cut) (es : List Event) : Type 0 where
   pub as-due : said cap cs empty es ≡ due cs (start cs) es
   pub once : (c : ℕ) → c < length cs → times c es (said cap cs empty es) ≡ 1
-  pub ends-empty : final cap cs empty es ≡ empty
+  pub ends-empty : storeAfter cap cs empty es ≡ empty
 
 -- Demand 3
 abbrev pub Demand3 : Type 0
@@ -155,4 +155,4 @@ Demand3 =
     (cap : ℕ) → 65535 ≤ cap
     → (cs : List Cut) → ((c : ℕ) → c < length cs → Within (getD cs c noCut))
     → (es : List Event) → Schedule cs (start cs) es
-    → Outcome cap cs es
+    → Fulfilled cap cs es

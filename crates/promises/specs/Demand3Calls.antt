@@ -8,28 +8,28 @@ use Rattle.reassembly.specs.declared.Reply.{Reply}
 use Rattle.reassembly.specs.Store.{Piece, first, follow, empty}
 use Rattle.reassembly.specs.Calls.{After, after, bare, firstCall, followOnCall, swept, renewed}
 use Rattle.reassembly.specs.Stands.{stands, Made, labelOf, replyFor, laidOut}
-use Rattle.promises.specs.Demand3.{Cut, Within, pieceOf, noCut, Event, deliver, tidy, start, Schedule, Said, due, times}
+use Rattle.promises.specs.Demand3.{Cut, Within, pieceOf, noCut, Event, deliver, sweepAt, start, Schedule, Said, due, times}
 
 -- a piece arrives: the call for it, and what it leaves
 unfoldable pub pieceCall : List ℕ → List ℕ → List ℕ → Piece → ℕ → After
-pieceCall rec room out (first id typ expires bytes) second = firstCall rec room out (labelOf (first id typ expires bytes)) second bytes
+pieceCall rec room out (first id kind expires bytes) second = firstCall rec room out (labelOf (first id kind expires bytes)) second bytes
 pieceCall rec room out (follow id number final bytes) second = followOnCall rec room out (labelOf (follow id number final bytes)) second bytes
 
 -- an event, on lent bytes
 unfoldable pub called : List Cut → List ℕ → List ℕ → List ℕ → Event → After
-called cs rec room out (deliver c i now) = pieceCall rec room out (pieceOf (getD cs c noCut) i) now
-called cs rec room out (tidy now) = after (bare 0) (swept now rec) room out
+called cs rec room out (deliver c i second) = pieceCall rec room out (pieceOf (getD cs c noCut) i) second
+called cs rec room out (sweepAt second) = after (bare 0) (swept second rec) room out
 
 -- what the calls leave, one after the other; the n-th is lent the assembly buffer outs n, whatever it holds
-abbrev pub calls : List Cut → (ℕ → List ℕ) → ℕ → List ℕ → List ℕ → List Event → List After
-calls cs outs n rec room [] = []
-calls cs outs n rec room (e ∷ es) =
-    called cs rec room (outs n) e ∷ calls cs outs (suc n) (called cs rec room (outs n) e .rec) (called cs rec room (outs n) e .room) es
+abbrev pub afterEach : List Cut → (ℕ → List ℕ) → ℕ → List ℕ → List ℕ → List Event → List After
+afterEach cs outs n rec room [] = []
+afterEach cs outs n rec room (e ∷ es) =
+    called cs rec room (outs n) e ∷ afterEach cs outs (suc n) (called cs rec room (outs n) e .rec) (called cs rec room (outs n) e .room) es
 
 -- the record and the room after the last of them
-abbrev pub lastly : List Cut → (ℕ → List ℕ) → ℕ → List ℕ → List ℕ → List Event → After
-lastly cs outs n rec room [] = after (bare 0) rec room []
-lastly cs outs n rec room (e ∷ es) = lastly cs outs (suc n) (called cs rec room (outs n) e .rec) (called cs rec room (outs n) e .room) es
+abbrev pub afterLast : List Cut → (ℕ → List ℕ) → ℕ → List ℕ → List ℕ → List Event → After
+afterLast cs outs n rec room [] = after (bare 0) rec room []
+afterLast cs outs n rec room (e ∷ es) = afterLast cs outs (suc n) (called cs rec room (outs n) e .rec) (called cs rec room (outs n) e .room) es
 
 -- the reply that is due, and the assembly buffer that is due
 unfoldable pub replyDue : Said → Reply
@@ -40,22 +40,22 @@ buffersDue outs n [] = []
 buffersDue outs n (d ∷ ds) = laidOut (outs n) (d .out) ∷ buffersDue outs (suc n) ds
 
 abbrev pub secondOf : Event → ℕ
-secondOf (deliver c i now) = now
-secondOf (tidy now) = now
+secondOf (deliver c i second) = second
+secondOf (sweepAt second) = second
 
 -- what the calls' parameters hold: ids and expirations of 4 bytes, seconds of 8
-pub record Narrow (cs : List Cut) (es : List Event) : Type 0 where
+pub record ScheduleInWidth (cs : List Cut) (es : List Event) : Type 0 where
   pub ids : (c : ℕ) → getD cs c noCut .id < 4294967296
   pub expirations : (c : ℕ) → getD cs c noCut .expires < 4294967296
-  pub seconds : (n : ℕ) → secondOf (getD es n (tidy 0)) < 18446744073709551616
+  pub seconds : (n : ℕ) → secondOf (getD es n (sweepAt 0)) < 18446744073709551616
 
 -- Every call is answered as is due, leaves its assembly buffer as is due, every message came out once, and the record and the room are again what calls made, and stand for the empty store.
-pub record OutcomeOfCalls (cs : List Cut) (outs : ℕ → List ℕ) (rec room : List ℕ) (es : List Event) : Type 0 where
-  pub replies : map (λ x. x .reply) (calls cs outs 0 rec room es) ≡ map replyDue (due cs (start cs) es)
-  pub buffers : map (λ x. x .out) (calls cs outs 0 rec room es) ≡ buffersDue outs 0 (due cs (start cs) es)
+pub record FulfilledByCalls (cs : List Cut) (outs : ℕ → List ℕ) (rec room : List ℕ) (es : List Event) : Type 0 where
+  pub replies : map (λ x. x .reply) (afterEach cs outs 0 rec room es) ≡ map replyDue (due cs (start cs) es)
+  pub buffers : map (λ x. x .out) (afterEach cs outs 0 rec room es) ≡ buffersDue outs 0 (due cs (start cs) es)
   pub once : (c : ℕ) → c < length cs → times c es (due cs (start cs) es) ≡ 1
-  pub ends-empty : stands (lastly cs outs 0 rec room es .rec) (lastly cs outs 0 rec room es .room) ≡ empty
-  pub made : Made (lastly cs outs 0 rec room es .rec) (lastly cs outs 0 rec room es .room)
+  pub ends-empty : stands (afterLast cs outs 0 rec room es .rec) (afterLast cs outs 0 rec room es .room) ≡ empty
+  pub made : Made (afterLast cs outs 0 rec room es .rec) (afterLast cs outs 0 rec room es .room)
 
 -- each call is lent an assembly buffer of 65,535 bytes or more
 abbrev pub LongEnough : (ℕ → List ℕ) → Type 0
@@ -67,8 +67,8 @@ Demand3Calls =
     (outs : ℕ → List ℕ) → LongEnough outs
     → (rec room : List ℕ) → Made rec room → stands rec room ≡ empty
     → (cs : List Cut) → ((c : ℕ) → c < length cs → Within (getD cs c noCut))
-    → (es : List Event) → Narrow cs es → Schedule cs (start cs) es
-    → OutcomeOfCalls cs outs rec room es
+    → (es : List Event) → ScheduleInWidth cs es → Schedule cs (start cs) es
+    → FulfilledByCalls cs outs rec room es
 
 -- Records and rooms that meet its premises: a new record, and one of zeros, with any room of the lent length;
 pub record StoreStarts : Type 0 where
@@ -79,10 +79,10 @@ pub record StoreStarts : Type 0 where
 abbrev pub Demand3Again : Type 0
 Demand3Again =
     (outs outs′ : ℕ → List ℕ) → LongEnough outs′
-    → (rec room : List ℕ) (cs : List Cut) (es : List Event) → OutcomeOfCalls cs outs rec room es
+    → (rec room : List ℕ) (cs : List Cut) (es : List Event) → FulfilledByCalls cs outs rec room es
     → (ds : List Cut) → ((c : ℕ) → c < length ds → Within (getD ds c noCut))
-    → (fs : List Event) → Narrow ds fs → Schedule ds (start ds) fs
-    → OutcomeOfCalls ds outs′ (lastly cs outs 0 rec room es .rec) (lastly cs outs 0 rec room es .room) fs
+    → (fs : List Event) → ScheduleInWidth ds fs → Schedule ds (start ds) fs
+    → FulfilledByCalls ds outs′ (afterLast cs outs 0 rec room es .rec) (afterLast cs outs 0 rec room es .room) fs
 
 -- Demand 3 of the calls that follow strawhub_store_new, whatever the record held
 abbrev pub Demand3New : Type 0
@@ -90,5 +90,5 @@ Demand3New =
     (outs : ℕ → List ℕ) → LongEnough outs
     → (rec room : List ℕ) → 8576 ≤ length rec → 1048560 ≤ length room
     → (cs : List Cut) → ((c : ℕ) → c < length cs → Within (getD cs c noCut))
-    → (es : List Event) → Narrow cs es → Schedule cs (start cs) es
-    → OutcomeOfCalls cs outs (renewed rec) room es
+    → (es : List Event) → ScheduleInWidth cs es → Schedule cs (start cs) es
+    → FulfilledByCalls cs outs (renewed rec) room es

@@ -15,14 +15,14 @@ use Rattle.blocks.specs.declared.Read.the-variants as Got
 use Rattle.blocks.specs.Extent.{listed}
 use Rattle.blocks.specs.Reading.{bytesAt, readAt}
 use Rattle.blocks.specs.Writing.{roomAfter}
-use Rattle.reassembly.specs.Store.{Piece, first, follow, Whole, empty}
+use Rattle.reassembly.specs.Store.{Piece, first, follow, Rebuilt, empty}
 use Rattle.reassembly.specs.Calls.{swept}
 use Rattle.reassembly.specs.Stands.{stands, Made, laidOut}
-use Rattle.outcomes.specs.declared.Outcome.{Outcome}
-use Rattle.outcomes.specs.Outcomes.{outcome}
-use Rattle.outcomes.specs.Deliveries.{deliveryOutcome, deliveryNumbers, deliveredAt}
-use Rattle.promises.specs.Demand3.{Cut, Within, pieceOf, noCut, Event, deliver, tidy, start, Schedule, Said, due, times}
-use Rattle.promises.specs.Demand3Calls.{Narrow, LongEnough}
+use Rattle.numbers_outcomes.specs.declared.Outcome.{Outcome}
+use Rattle.numbers_outcomes.specs.Outcomes.{outcome}
+use Rattle.numbers_outcomes.specs.Deliveries.{deliveryOutcome, deliveryNumbers, deliveredAt}
+use Rattle.promises.specs.Demand3.{Cut, Within, pieceOf, noCut, Event, deliver, sweepAt, start, Schedule, Said, due, times}
+use Rattle.promises.specs.Demand3Calls.{ScheduleInWidth, LongEnough}
 
 -- a payload has a block at a place, whose part of the payload has these bytes
 pub record HasBlock (s : List ℕ) (at : ℕ) (block : Part → Block) (bytes : List ℕ) : Type 0 where
@@ -33,9 +33,9 @@ pub record HasBlock (s : List ℕ) (at : ℕ) (block : Part → Block) (bytes : 
   pub same-bytes : part s (body .start) (body .len) ≡ bytes
 
 -- a piece is the block at a place: a first fragment with type, id and expiration, a follow-on with number, mark of the last and id
-abbrev pub Carries : List ℕ → ℕ → Piece → Type 0
-Carries s at (first id typ expires bytes) = HasBlock s at (λ p. Body.FirstFragment typ id expires p) bytes
-Carries s at (follow id number final bytes) = HasBlock s at (λ p. Body.FollowOnFragment number final id p) bytes
+abbrev pub PieceAt : List ℕ → ℕ → Piece → Type 0
+PieceAt s at (first id kind expires bytes) = HasBlock s at (λ p. Body.FirstFragment kind id expires p) bytes
+PieceAt s at (follow id number final bytes) = HasBlock s at (λ p. Body.FollowOnFragment number final id p) bytes
 
 -- What a call is lent for itself: a payload and a place in it, the assembly buffer, the six numbers; whatever they hold.
 pub record Loan : Type 0 where
@@ -46,8 +46,8 @@ pub record Loan : Type 0 where
 
 -- the block that a call is handed is the event's piece; a sweep is handed none
 abbrev pub HandedOne : List Cut → Loan → Event → Type 0
-HandedOne cs l (deliver c i now) = Carries (l .payload) (l .at) (pieceOf (getD cs c noCut) i)
-HandedOne cs l (tidy now) = Unit
+HandedOne cs l (deliver c i second) = PieceAt (l .payload) (l .at) (pieceOf (getD cs c noCut) i)
+HandedOne cs l (sweepAt second) = Unit
 
 -- the n-th call is lent loans n
 abbrev pub Handed : List Cut → (ℕ → Loan) → ℕ → List Event → Type 0
@@ -68,18 +68,18 @@ pub record Leaves : Type 0 where
 
 -- an event, on lent bytes
 unfoldable pub handed : Loan → List ℕ → List ℕ → Event → Leaves
-handed l rec room (deliver c i now) =
+handed l rec room (deliver c i second) =
     record {
       tells =
           record {
-            outcome = deliveryOutcome (deliveredAt (l .payload) (l .at) rec room (l .out) now .received);
-            out = deliveredAt (l .payload) (l .at) rec room (l .out) now .out;
-            told = deliveryNumbers (deliveredAt (l .payload) (l .at) rec room (l .out) now .received) (l .told);
+            outcome = deliveryOutcome (deliveredAt (l .payload) (l .at) rec room (l .out) second .received);
+            out = deliveredAt (l .payload) (l .at) rec room (l .out) second .out;
+            told = deliveryNumbers (deliveredAt (l .payload) (l .at) rec room (l .out) second .received) (l .told);
           };
-      rec = deliveredAt (l .payload) (l .at) rec room (l .out) now .rec;
-      room = deliveredAt (l .payload) (l .at) rec room (l .out) now .room;
+      rec = deliveredAt (l .payload) (l .at) rec room (l .out) second .rec;
+      room = deliveredAt (l .payload) (l .at) rec room (l .out) second .room;
     }
-handed l rec room (tidy now) = record { tells = record { outcome = outcome 0 0; out = l .out; told = l .told }; rec = swept now rec; room = room }
+handed l rec room (sweepAt second) = record { tells = record { outcome = outcome 0 0; out = l .out; told = l .told }; rec = swept second rec; room = room }
 
 -- what the calls tell, one after the other
 abbrev pub tellings : (ℕ → Loan) → ℕ → List ℕ → List ℕ → List Event → List Tells
@@ -100,9 +100,9 @@ unfoldable pub outcomeDue : ℕ → Said → Outcome
 outcomeDue at d = cond (eqb (d .number) 54) (outcome 54 at) (outcome (d .number) 0)
 
 -- six zeros; or 2, the assembly buffer, with type, id, expiration, place 0 and length
-unfoldable pub toldOf : ℕ → Option Whole → List ℕ
+unfoldable pub toldOf : ℕ → Option Rebuilt → List ℕ
 toldOf id none = 0 ∷ 0 ∷ 0 ∷ 0 ∷ 0 ∷ 0 ∷ []
-toldOf id (some w) = 2 ∷ w .typ ∷ id ∷ w .expires ∷ 0 ∷ length (w .bytes) ∷ []
+toldOf id (some w) = 2 ∷ w .kind ∷ id ∷ w .expires ∷ 0 ∷ length (w .bytes) ∷ []
 
 -- the six numbers that are due: as they were lent at 54
 unfoldable pub toldDue : ℕ → List ℕ → Said → List ℕ
@@ -110,8 +110,8 @@ toldDue id told d = cond (eqb (d .number) 54) told (toldOf id (d .out))
 
 -- all that is due of an event; a sweep answers 0, and is lent neither buffer nor numbers
 unfoldable pub tellsDue : List Cut → Loan → Event → Said → Tells
-tellsDue cs l (deliver c i now) d = record { outcome = outcomeDue (l .at) d; out = laidOut (l .out) (d .out); told = toldDue (getD cs c noCut .id) (l .told) d }
-tellsDue cs l (tidy now) d = record { outcome = outcome 0 0; out = l .out; told = l .told }
+tellsDue cs l (deliver c i second) d = record { outcome = outcomeDue (l .at) d; out = laidOut (l .out) (d .out); told = toldDue (getD cs c noCut .id) (l .told) d }
+tellsDue cs l (sweepAt second) d = record { outcome = outcome 0 0; out = l .out; told = l .told }
 
 abbrev pub allDue : List Cut → (ℕ → Loan) → ℕ → List Event → List Said → List Tells
 allDue cs loans n [] ds = []
@@ -119,7 +119,7 @@ allDue cs loans n (e ∷ es) [] = []
 allDue cs loans n (e ∷ es) (d ∷ ds) = tellsDue cs (loans n) e d ∷ allDue cs loans (suc n) es ds
 
 -- Every call tells what is due, every message came out once, and the record and the room are again what calls made, and stand for the empty store.
-pub record OutcomeOfDeliveries (cs : List Cut) (loans : ℕ → Loan) (rec room : List ℕ) (es : List Event) : Type 0 where
+pub record FulfilledByDeliveries (cs : List Cut) (loans : ℕ → Loan) (rec room : List ℕ) (es : List Event) : Type 0 where
   pub tells : tellings loans 0 rec room es ≡ allDue cs loans 0 es (due cs (start cs) es)
   pub once : (c : ℕ) → c < length cs → times c es (due cs (start cs) es) ≡ 1
   pub ends-empty : stands (lastRec loans 0 rec room es) (lastRoom loans 0 rec room es) ≡ empty
@@ -131,22 +131,22 @@ Demand3Deliveries =
     (loans : ℕ → Loan) → LongEnough (λ n. loans n .out)
     → (rec room : List ℕ) → Made rec room → stands rec room ≡ empty
     → (cs : List Cut) → ((c : ℕ) → c < length cs → Within (getD cs c noCut))
-    → (es : List Event) → Narrow cs es → Handed cs loans 0 es → Schedule cs (start cs) es
-    → OutcomeOfDeliveries cs loans rec room es
+    → (es : List Event) → ScheduleInWidth cs es → Handed cs loans 0 es → Schedule cs (start cs) es
+    → FulfilledByDeliveries cs loans rec room es
 
 -- a piece as a block to be written, and the bytes to be written after its fields
 abbrev pub blockOf : Piece → Block
-blockOf (first id typ expires bytes) = Body.FirstFragment typ id expires (bytesAt 0 0)
+blockOf (first id kind expires bytes) = Body.FirstFragment kind id expires (bytesAt 0 0)
 blockOf (follow id number final bytes) = Body.FollowOnFragment number final id (bytesAt 0 0)
 
 abbrev pub bodyOf : Piece → List ℕ
-bodyOf (first id typ expires bytes) = bytes
+bodyOf (first id kind expires bytes) = bytes
 bodyOf (follow id number final bytes) = bytes
 
 -- Such payloads exist: what the block writer leaves in a room of 1,512 bytes or more for a piece of a message within the limits, of a listed type, is that piece.
 abbrev pub WrittenIsHanded : Type 0
 WrittenIsHanded =
-    (c : Cut) → Within c → listed (c .typ) ≡ true → c .id < 4294967296 → c .expires < 4294967296
+    (c : Cut) → Within c → listed (c .kind) ≡ true → c .id < 4294967296 → c .expires < 4294967296
     → (i : ℕ) → i < length (c .pieces)
     → (room : List ℕ) → 1512 ≤ length room
-    → Carries (roomAfter (blockOf (pieceOf c i)) (bodyOf (pieceOf c i)) room) 0 (pieceOf c i)
+    → PieceAt (roomAfter (blockOf (pieceOf c i)) (bodyOf (pieceOf c i)) room) 0 (pieceOf c i)

@@ -9,10 +9,10 @@ use Rattle.blocks.specs.declared.Block.the-variants as Body
 use Rattle.blocks.specs.declared.Read.{Read}
 use Rattle.blocks.specs.declared.Read.the-variants as Got
 use Rattle.blocks.specs.Reading.{bytesAt, readAt, partOf}
-use Rattle.listing.specs.Listing.{Listing, no, blocksOf}
+use Rattle.blocks_listing.specs.Listing.{Listing, no, blocksOf}
 use Rattle.acks.specs.Tracking.{fresh, registerOf}
-use Rattle.acks.specs.Reporting.{shown}
-use Rattle.acks.specs.Expanding.{numbers}
+use Rattle.acks.specs.Reporting.{reportOfRuns}
+use Rattle.acks.specs.Expanding.{expansion}
 use Rattle.reassembly.specs.Store as Store
 use Rattle.promises.specs.Acks.{reportAfter}
 
@@ -41,10 +41,10 @@ abbrev pub Holds : Case → Type 0
 Holds (reads s r bytes) = (readAt s 0 ≡ r) × (shows s r ≡ bytes)
 Holds (lists s l) = blocksOf s ≡ l
 Holds (expands s t c size next pairs names) =
-    (readAt s 0 ≡ Got.Block (Body.Ack t c (bytesAt 8 (length pairs))) size next) × (part s 8 (length pairs) ≡ pairs) × (numbers t c pairs ≡ names)
-Holds (reports calls through runs) = reportAfter calls ≡ shown through runs
+    (readAt s 0 ≡ Got.Block (Body.Ack t c (bytesAt 8 (length pairs))) size next) × (part s 8 (length pairs) ≡ pairs) × (expansion t c pairs ≡ names)
+Holds (reports calls through runs) = reportAfter calls ≡ reportOfRuns through runs
 Holds (registers n answer) = registerOf fresh n .answer ≡ answer
-Holds (rebuilds ps answers) = Store.numbers Store.empty ps ≡ answers
+Holds (rebuilds ps answers) = Store.stepNumbers Store.empty ps ≡ answers
 
 -- (a) to (l)
 abbrev pub twelve : List Case

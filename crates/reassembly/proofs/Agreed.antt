@@ -11,9 +11,9 @@ use Rattle.reassembly.specs.Stands.{stands, Made, labelOf, replyFor, lai
 use Rattle.reassembly.proofs.Steps.{Fits}
 use Rattle.reassembly.proofs.Sweeps.{sweep-stands, sweep-made}
 
-pub fits-first : (id typ expires : ℕ) (bytes : List ℕ) (second : ℕ) → id < 4294967296 → expires < 4294967296 → second < 18446744073709551616 → Fits (first id typ expires bytes) second
+pub fits-first : (id kind expires : ℕ) (bytes : List ℕ) (second : ℕ) → id < 4294967296 → expires < 4294967296 → second < 18446744073709551616 → Fits (first id kind expires bytes) second
 unfolding labelOf
-fits-first id typ expires bytes second a b c = record { id = a; expires = b; second-fits = c }
+fits-first id kind expires bytes second a b c = record { id = a; expires = b; second-fits = c }
 
 -- a follow-on has no expiration
 pub fits-follow : (id number : ℕ) (final : Bool) (bytes : List ℕ) (second : ℕ) → id < 4294967296 → second < 18446744073709551616 → Fits (follow id number final bytes) second

@@ -10,7 +10,7 @@ use borrow.Author.Tests.{ltb-false}
 use Rattle.wire.specs.Parts.{same}
 use Rattle.wire.proofs.Tests.{or-neither}
 use Rattle.reassembly.specs.declared.Head.{Head}
-use Rattle.reassembly.specs.Store.{Piece, first, follow, idOf, numberOf, finalOf, bytesOf, isHeld, someHeld, total, plus, badLength, badNumber, repeats, clashes, tooMuch}
+use Rattle.reassembly.specs.Store.{Piece, first, follow, idOf, numberOf, finalOf, pieceBytes, isHeld, someHeld, total, plus, badLength, badNumber, repeats, clashes, tooMuch}
 use Rattle.reassembly.specs.Record.{pieceAt}
 use Rattle.reassembly.specs.Judge.{pick, sameLabel, misfits, grownBy}
 use Rattle.reassembly.specs.Calls.{badSize}
@@ -22,23 +22,23 @@ use Rattle.reassembly.proofs.Kept.{table-at}
 
 pub label-id : (p : Piece) → labelOf p .id ≡ idOf p
 unfolding labelOf idOf
-label-id (first id typ expires bytes) = refl
+label-id (first id kind expires bytes) = refl
 label-id (follow id number final bytes) = refl
 
 pub label-number : (p : Piece) → labelOf p .number ≡ numberOf p
 unfolding labelOf numberOf
-label-number (first id typ expires bytes) = refl
+label-number (first id kind expires bytes) = refl
 label-number (follow id number final bytes) = refl
 
 pub label-last : (p : Piece) → labelOf p .last ≡ finalOf p
 unfolding labelOf finalOf
-label-last (first id typ expires bytes) = refl
+label-last (first id kind expires bytes) = refl
 label-last (follow id number final bytes) = refl
 
 -- a number that is not refused is below 128
 pub number-small : (p : Piece) → badNumber p ≡ false → labelOf p .number < 128
 unfolding labelOf badNumber
-number-small (first id typ expires bytes) e = omega arith
+number-small (first id kind expires bytes) e = omega arith
 number-small (follow id number final bytes) e = let q : number ≤ 127 = ltb-false 127 number (or-neither (eqb number 0) (ltb 127 number) e .1) in omega arith
 
 -- ---- the tests of a piece whose slot has the head h
@@ -59,13 +59,13 @@ module _ (h : Head) (rec room : List ℕ) (i : ℕ) (f : Fine h rec room i) (lon
   swap₂ false false = refl
 
   pub repeats-held : isHeld (getD (tableAt rec room i) (labelOf p .number) []) ≡ true
-      → repeats (messageWith h rec room i) p ≡ (sameLabel h (labelOf p) && same (pieceAt rec room i (labelOf p .number)) (bytesOf p))
-  unfolding repeats messageWith labelOf sameLabel bytesOf badNumber
+      → repeats (messageWith h rec room i) p ≡ (sameLabel h (labelOf p) && same (pieceAt rec room i (labelOf p .number)) (pieceBytes p))
+  unfolding repeats messageWith labelOf sameLabel pieceBytes badNumber
   repeats-held = go p gn
     where
       go : (p : Piece) → badNumber p ≡ false → isHeld (getD (tableAt rec room i) (labelOf p .number) []) ≡ true
-          → repeats (messageWith h rec room i) p ≡ (sameLabel h (labelOf p) && same (pieceAt rec room i (labelOf p .number)) (bytesOf p))
-      go (first id typ expires bytes) g e = rw (e, table-at rec room i 0 (omega arith)) (swap₁ (same (pieceAt rec room i 0) bytes) (eqb (h .kind) typ) (eqb (h .expires) expires))
+          → repeats (messageWith h rec room i) p ≡ (sameLabel h (labelOf p) && same (pieceAt rec room i (labelOf p .number)) (pieceBytes p))
+      go (first id kind expires bytes) g e = rw (e, table-at rec room i 0 (omega arith)) (swap₁ (same (pieceAt rec room i 0) bytes) (eqb (h .kind) kind) (eqb (h .expires) expires))
       go (follow id number final bytes) g e =
           let z : eqb number 0 ≡ false = or-neither (eqb number 0) (ltb 127 number) g .0 in
           let s : number ≤ 127 = ltb-false 127 number (or-neither (eqb number 0) (ltb 127 number) g .1) in
@@ -76,7 +76,7 @@ module _ (h : Head) (rec room : List ℕ) (i : ℕ) (f : Fine h rec room i) (lon
   repeats-free = go p
     where
       go : (p : Piece) → isHeld (getD (tableAt rec room i) (labelOf p .number) []) ≡ false → repeats (messageWith h rec room i) p ≡ false
-      go (first id typ expires bytes) e = rw e refl
+      go (first id kind expires bytes) e = rw e refl
       go (follow id number final bytes) e = rw e refl
 
   pub clashes-held : isHeld (getD (tableAt rec room i) (labelOf p .number) []) ≡ true → clashes (messageWith h rec room i) p ≡ true
@@ -91,27 +91,27 @@ module _ (h : Head) (rec room : List ℕ) (i : ℕ) (f : Fine h rec room i) (lon
       let s : someHeld (drop (suc (labelOf p .number)) (tableAt rec room i)) ≡ ltb (labelOf p .number) (h .top) = some-above (tableAt rec room i) (labelOf p .number) (h .top) (f .top-held) (f .topmost) in
       rw (← label-number p, ← label-last p, e, s) refl
 
-  pub too-much : tooMuch (messageWith h rec room i) p ≡ ltb 65535 (h .total + length (bytesOf p))
+  pub too-much : tooMuch (messageWith h rec room i) p ≡ ltb 65535 (h .total + length (pieceBytes p))
   unfolding tooMuch messageWith
   too-much = rw (f .filled) refl
 
-pub good-length : (p : Piece) → badLength p ≡ badSize (length (bytesOf p))
+pub good-length : (p : Piece) → badLength p ≡ badSize (length (pieceBytes p))
 unfolding badLength badSize
 good-length p = refl
 
 -- the message with the piece is what the slot stands for once the piece is kept
 pub plus-is : (h : Head) (rec room rec′ room′ : List ℕ) (i : ℕ) (p : Piece) → badNumber p ≡ false
-    → tableAt rec′ room′ i ≡ set (tableAt rec room i) (labelOf p .number) (bytesOf p)
-    → plus (messageWith h rec room i) p ≡ messageWith (grownBy h (labelOf p) (length (bytesOf p))) rec′ room′ i
-unfolding plus messageWith grownBy labelOf bytesOf badNumber
-plus-is h rec room rec′ room′ i (first id typ expires bytes) g t =
-    λ j. record { id = h .id; opened = h .opened; typ = typ; expires = expires; last = h .last; table = sym t j }
+    → tableAt rec′ room′ i ≡ set (tableAt rec room i) (labelOf p .number) (pieceBytes p)
+    → plus (messageWith h rec room i) p ≡ messageWith (grownBy h (labelOf p) (length (pieceBytes p))) rec′ room′ i
+unfolding plus messageWith grownBy labelOf pieceBytes badNumber
+plus-is h rec room rec′ room′ i (first id kind expires bytes) g t =
+    λ j. record { id = h .id; opened = h .opened; kind = kind; expires = expires; last = h .last; table = sym t j }
 plus-is h rec room rec′ room′ i (follow id number final bytes) g t =
     let z : eqb number 0 ≡ false = or-neither (eqb number 0) (ltb 127 number) g .0 in
     λ j. record {
       id = h .id;
       opened = h .opened;
-      typ = pick (sym z j) 0 (h .kind);
+      kind = pick (sym z j) 0 (h .kind);
       expires = pick (sym z j) 0 (h .expires);
       last = last-is final j;
       table = sym t j;

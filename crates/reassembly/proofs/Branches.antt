@@ -17,12 +17,12 @@ use Rattle.reassembly.specs.declared.Reply.{Reply}
 use Rattle.reassembly.specs.Record.{headAt, withHead, entryAt, withEntry, outside, pieceAt, cleared}
 use Rattle.reassembly.specs.Slots.{firstFrom, isOpenAs, isFree}
 use Rattle.reassembly.specs.Message.{messageOf, joinsOutside}
-use Rattle.reassembly.specs.Judge.{pick, sameLabel, again, misfits, moreOf, grownBy, isWhole, newHead, noHead, isOld}
-use Rattle.reassembly.specs.Calls.{After, after, bare, keptRec, keptRoom, finished, putIn, compared, added, openedIn, openedNow, taken, isShort, badSize, offNumber, firstCall, followOnCall, sweptAt, sweptTo}
+use Rattle.reassembly.specs.Judge.{pick, sameLabel, again, misfits, moreOf, grownBy, isComplete, newHead, noHead, isOld}
+use Rattle.reassembly.specs.Calls.{After, after, bare, keptRec, keptRoom, finished, putIn, compared, added, openedIn, openedNow, takenPiece, lentShort, badSize, offNumber, firstCall, followOnCall, sweptAt, sweptTo}
 
 -- a message that is whole has a last number below 128
-pub whole-last : (h : Head) → isWhole h ≡ true → h .last < 128
-unfolding isWhole
+pub whole-last : (h : Head) → isComplete h ≡ true → h .last < 128
+unfolding isComplete
 whole-last h e = ltb-true (h .last) 128 (go (ltb 0 (h .last)) (ltb (h .last) 128) (eqb (h .count) (h .last + 1)) e)
   where
     go : (a b c : Bool) → (a && b && c) ≡ true → b ≡ true
@@ -60,17 +60,17 @@ module _ (rec room out : List ℕ) (i : ℕ) (h : Head) (l : Label) (v : List �
   unfolding putIn
   put-53 r t q = rw (lt-ltb 65535 (h .total + length v) t, q) refl
 
-  pub put-whole : (x : After) (g : Head) → h .total + length v ≤ 65535 → g ≡ grownBy h l (length v) → isWhole g ≡ true → x ≡ finished rec room out i l g v → x ≡ putIn rec room out i h l v
+  pub put-whole : (x : After) (g : Head) → h .total + length v ≤ 65535 → g ≡ grownBy h l (length v) → isComplete g ≡ true → x ≡ finished rec room out i l g v → x ≡ putIn rec room out i h l v
   unfolding putIn
   put-whole x g t e w q =
-      let w′ : isWhole (grownBy h l (length v)) ≡ true = ap isWhole (sym e) ∙ w in
+      let w′ : isComplete (grownBy h l (length v)) ≡ true = ap isComplete (sym e) ∙ w in
       rw (le-ltb 65535 (h .total + length v) t, w′) (q ∙ ap (λ (z : Head). finished rec room out i l z v) e)
 
-  pub put-kept : (r : Reply) (rec′ room′ : List ℕ) (g : Head) (k : ℕ) → h .total + length v ≤ 65535 → g ≡ grownBy h l (length v) → isWhole g ≡ false → k ≡ l .number
+  pub put-kept : (r : Reply) (rec′ room′ : List ℕ) (g : Head) (k : ℕ) → h .total + length v ≤ 65535 → g ≡ grownBy h l (length v) → isComplete g ≡ false → k ≡ l .number
       → rec′ ≡ keptRec rec i k (h .total) (length v) g → room′ ≡ keptRoom room i (h .total) v → r ≡ bare 0 → after r rec′ room′ out ≡ putIn rec room out i h l v
   unfolding putIn
   put-kept r rec′ room′ g k t e w n a b q =
-      let w′ : isWhole (grownBy h l (length v)) ≡ false = ap isWhole (sym e) ∙ w in
+      let w′ : isComplete (grownBy h l (length v)) ≡ false = ap isComplete (sym e) ∙ w in
       rw (le-ltb 65535 (h .total + length v) t, w′) (cc)
 
 module _ (rec room out : List ℕ) (i : ℕ) (l : Label) (v : List ℕ) (h : Head) (k : ℕ) (e : Entry) (eh : h ≡ headAt rec i) (ek : k ≡ l .number) (ee : e ≡ entryAt rec i k) where
@@ -144,45 +144,45 @@ module _ (rec room out : List ℕ) (l : Label) (second : ℕ) (v : List ℕ) whe
   unfolding openedNow
   opened-in x i e t q = rw (lt-leb 16 (firstFrom (isFree rec) 0 16) (omega arith)) (q ∙ ap (λ (z : ℕ). openedIn rec room out z l second v) e)
 
-  pub taken-added : (x : After) (i : ℕ) → i ≡ firstFrom (isOpenAs rec (l .id)) 0 16 → i < 16 → x ≡ added rec room out i l v → x ≡ taken rec room out l second v
-  unfolding taken
+  pub taken-added : (x : After) (i : ℕ) → i ≡ firstFrom (isOpenAs rec (l .id)) 0 16 → i < 16 → x ≡ added rec room out i l v → x ≡ takenPiece rec room out l second v
+  unfolding takenPiece
   taken-added x i e t q = rw (lt-ltb (firstFrom (isOpenAs rec (l .id)) 0 16) 16 (omega arith)) (q ∙ ap (λ (z : ℕ). added rec room out z l v) e)
 
-  pub taken-opened : (x : After) (i : ℕ) → i ≡ firstFrom (isOpenAs rec (l .id)) 0 16 → 16 ≤ i → x ≡ openedNow rec room out l second v → x ≡ taken rec room out l second v
-  unfolding taken
+  pub taken-opened : (x : After) (i : ℕ) → i ≡ firstFrom (isOpenAs rec (l .id)) 0 16 → 16 ≤ i → x ≡ openedNow rec room out l second v → x ≡ takenPiece rec room out l second v
+  unfolding takenPiece
   taken-opened x i e t q = rw (le-ltb (firstFrom (isOpenAs rec (l .id)) 0 16) 16 (omega arith)) q
 
-  pub first-59 : (r : Reply) → isShort rec room ≡ true → r ≡ bare 59 → after r rec room out ≡ firstCall rec room out l second v
+  pub first-59 : (r : Reply) → lentShort rec room ≡ true → r ≡ bare 59 → after r rec room out ≡ firstCall rec room out l second v
   unfolding firstCall
   first-59 r t q = rw (t, q) refl
 
-  pub first-50 : (r : Reply) → isShort rec room ≡ false → badSize (length v) ≡ true → r ≡ bare 50 → after r rec room out ≡ firstCall rec room out l second v
+  pub first-50 : (r : Reply) → lentShort rec room ≡ false → badSize (length v) ≡ true → r ≡ bare 50 → after r rec room out ≡ firstCall rec room out l second v
   unfolding firstCall
   first-50 r t s q = rw (t, s, q) refl
 
-  pub first-taken : (x : After) → isShort rec room ≡ false → badSize (length v) ≡ false → x ≡ taken rec room out l second v → x ≡ firstCall rec room out l second v
+  pub first-taken : (x : After) → lentShort rec room ≡ false → badSize (length v) ≡ false → x ≡ takenPiece rec room out l second v → x ≡ firstCall rec room out l second v
   unfolding firstCall
   first-taken x t s q = rw (t, s) q
 
-  pub follow-59 : (r : Reply) → isShort rec room ≡ true → r ≡ bare 59 → after r rec room out ≡ followOnCall rec room out l second v
+  pub follow-59 : (r : Reply) → lentShort rec room ≡ true → r ≡ bare 59 → after r rec room out ≡ followOnCall rec room out l second v
   unfolding followOnCall
   follow-59 r t q = rw (t, q) refl
 
-  pub follow-50 : (r : Reply) → isShort rec room ≡ false → badSize (length v) ≡ true → r ≡ bare 50 → after r rec room out ≡ followOnCall rec room out l second v
+  pub follow-50 : (r : Reply) → lentShort rec room ≡ false → badSize (length v) ≡ true → r ≡ bare 50 → after r rec room out ≡ followOnCall rec room out l second v
   unfolding followOnCall
   follow-50 r t s q = rw (t, s, q) refl
 
-  pub follow-51 : (r : Reply) → isShort rec room ≡ false → badSize (length v) ≡ false → offNumber (l .number) ≡ true → r ≡ bare 51 → after r rec room out ≡ followOnCall rec room out l second v
+  pub follow-51 : (r : Reply) → lentShort rec room ≡ false → badSize (length v) ≡ false → offNumber (l .number) ≡ true → r ≡ bare 51 → after r rec room out ≡ followOnCall rec room out l second v
   unfolding followOnCall
   follow-51 r t s n q = rw (t, s, n, q) refl
 
-  pub follow-taken : (x : After) → isShort rec room ≡ false → badSize (length v) ≡ false → offNumber (l .number) ≡ false → x ≡ taken rec room out l second v → x ≡ followOnCall rec room out l second v
+  pub follow-taken : (x : After) → lentShort rec room ≡ false → badSize (length v) ≡ false → offNumber (l .number) ≡ false → x ≡ takenPiece rec room out l second v → x ≡ followOnCall rec room out l second v
   unfolding followOnCall
   follow-taken x t s n q = rw (t, s, n) q
 
 -- what the tests that were passed say of the lengths and the number
-pub long-lent : (rec room : List ℕ) → isShort rec room ≡ false → (8576 ≤ length rec) × (1048560 ≤ length room)
-unfolding isShort
+pub long-lent : (rec room : List ℕ) → lentShort rec room ≡ false → (8576 ≤ length rec) × (1048560 ≤ length room)
+unfolding lentShort
 long-lent rec room e =
     let p = or-neither (ltb (length rec) 8576) (ltb (length room) 1048560) e in
     (ltb-false (length rec) 8576 (p .0), ltb-false (length room) 1048560 (p .1))

@@ -9,14 +9,14 @@ use lib.Dec.{ltb, leb}
 use lib.ListN.{length, set}
 use borrow.Author.Tests.{ltb-false}
 use Rattle.wire.specs.Parts.{splice}
-use Rattle.reassembly.specs.Store.{Piece, Message, Store, Whole, Answer, idOf, placeOf, plus, badLength, badNumber, repeats, clashes, tooMuch, complete, wholeOf, tooShort, refused, answer, step}
+use Rattle.reassembly.specs.Store.{Piece, Message, Store, Rebuilt, Answer, idOf, placeOf, plus, badLength, badNumber, repeats, clashes, tooMuch, complete, rebuiltOf, tooShort, refused, answer, step}
 use Rattle.reassembly.specs.Calls.{After, bare}
 use Rattle.reassembly.specs.Stands.{Agrees, replyFor, laidOut}
 
 -- An answer brings a message out exactly with 60, and one that the assembly buffer holds.
 pub record Sober (cap : ℕ) (a : Answer) : Type 0 where
   pub none-out : a .out ≡ none → (a .number ≡ 60 → ⊥)
-  pub some-out : (w : Whole) → a .out ≡ some w → (a .number ≡ 60) × (length (w .bytes) ≤ cap)
+  pub some-out : (w : Rebuilt) → a .out ≡ some w → (a .number ≡ 60) × (length (w .bytes) ≤ cap)
 
 quiet : (cap n : ℕ) (s : Store) → (n ≡ 60 → ⊥) → Sober cap (record { number = n; out = none; store = s })
 quiet cap n s h = record { none-out = λ e. h; some-out = λ w e. absurd (Option·none-ne-some w e) }
@@ -39,15 +39,15 @@ sober cap s p k m =
     (choose cap (leb 16 k) _ _ (quiet cap 52 s (λ e. omega arith))
     (choose cap (tooMuch m p) _ _ (quiet cap 53 s (λ e. omega arith))
     (choose cap (complete (plus m p)) _ _
-    (both cap (ltb cap (length (wholeOf (plus m p) .bytes))) _ _ (quiet cap 56 s (λ e. omega arith))
+    (both cap (ltb cap (length (rebuiltOf (plus m p) .bytes))) _ _ (quiet cap 56 s (λ e. omega arith))
     (λ e. record {
-      none-out = λ q. absurd (Option·some-ne-none (wholeOf (plus m p)) q);
-      some-out = λ w q. (refl, fits w q (ltb-false cap (length (wholeOf (plus m p) .bytes)) e));
+      none-out = λ q. absurd (Option·some-ne-none (rebuiltOf (plus m p)) q);
+      some-out = λ w q. (refl, fits w q (ltb-false cap (length (rebuiltOf (plus m p) .bytes)) e));
     }))
     (quiet cap 0 (set s k (some (plus m p))) (λ e. omega arith))))))))
   where
-    fits : (w : Whole) → some (wholeOf (plus m p)) ≡ some w → length (wholeOf (plus m p) .bytes) ≤ cap → length (w .bytes) ≤ cap
-    fits w q h = let e : wholeOf (plus m p) ≡ w = cc in subst (λ (z : Whole). length (z .bytes) ≤ cap) e h
+    fits : (w : Rebuilt) → some (rebuiltOf (plus m p)) ≡ some w → length (rebuiltOf (plus m p) .bytes) ≤ cap → length (w .bytes) ≤ cap
+    fits w q h = let e : rebuiltOf (plus m p) ≡ w = cc in subst (λ (z : Rebuilt). length (z .bytes) ≤ cap) e h
 
 pub step-sober : (cap : ℕ) (s : Store) (p : Piece) (second : ℕ) → Sober cap (step cap s p second)
 unfolding step
@@ -59,16 +59,16 @@ module _ (out : List ℕ) (x : After) (a : Answer) (g : Agrees out x a) where
   unfolding replyFor bare
   reply-number = ap (λ r. r .number) (g .reply) ∙ go (a .out)
     where
-      go : (o : Option Whole) → replyFor (a .number) o .number ≡ a .number
+      go : (o : Option Rebuilt) → replyFor (a .number) o .number ≡ a .number
       go none = refl
       go (some w) = refl
 
   -- and the head and the length of a message that came out
-  pub reply-some : (w : Whole) → a .out ≡ some w → x .reply ≡ record { number = a .number; kind = w .typ; expires = w .expires; length = length (w .bytes) }
+  pub reply-some : (w : Rebuilt) → a .out ≡ some w → x .reply ≡ record { number = a .number; kind = w .kind; expires = w .expires; length = length (w .bytes) }
   unfolding replyFor
   reply-some w e = g .reply ∙ ap (replyFor (a .number)) e
 
   -- whose bytes stand at the start of the assembly buffer
-  pub laid-some : (w : Whole) → a .out ≡ some w → x .out ≡ splice out 0 (w .bytes)
+  pub laid-some : (w : Rebuilt) → a .out ≡ some w → x .out ≡ splice out 0 (w .bytes)
   unfolding laidOut
   laid-some w e = g .delivered ∙ ap (laidOut out) e

@@ -14,7 +14,7 @@ use Rattle.reassembly.specs.declared.Entry.{Entry}
 use Rattle.reassembly.specs.declared.Label.{Label}
 use Rattle.reassembly.specs.Store.{Piece, idOf, Message, isHeld, total, messageOr}
 use Rattle.reassembly.specs.Record.{cleared, roomOf, pieceAt}
-use Rattle.reassembly.specs.Judge.{pick, misfits, moreOf, grownBy, isWhole, newHead}
+use Rattle.reassembly.specs.Judge.{pick, misfits, moreOf, grownBy, isComplete, newHead}
 use Rattle.reassembly.specs.Stands.{series, tableAt, messageWith, heldOf, Fine, labelOf}
 use Rattle.reassembly.proofs.Series.{series-same}
 use Rattle.reassembly.proofs.Written.{cleared-entry}
@@ -50,7 +50,7 @@ module _ (rec room : List ℕ) (i : ℕ) (rlong : 8576 ≤ length rec) (hi : i <
 
   pub fresh-is : (p : Piece) (second : ℕ) → _≡_ {A = Message} (messageOr none (idOf p) second) (messageWith (newHead (labelOf p) second) (cleared rec i) room i)
   unfolding messageOr messageWith newHead
-  fresh-is p second = λ j. record { id = sym (label-id p) j; opened = second; typ = 0; expires = 0; last = 0; table = sym table-none j }
+  fresh-is p second = λ j. record { id = sym (label-id p) j; opened = second; kind = 0; expires = 0; last = 0; table = sym table-none j }
 
   pub fresh-fine : (l : Label) (second : ℕ) → l .id < 4294967296 → second < 18446744073709551616 → Fine (newHead l second) (cleared rec i) room i
   unfolding newHead
@@ -74,8 +74,8 @@ unfolding misfits newHead
 fresh-fits l second = rw (le-ltb (l .number) 0 (omega arith)) (and-false (l .last))
 
 -- one piece does not complete a message
-pub fresh-part : (l : Label) (second n : ℕ) → isWhole (grownBy (newHead l second) l n) ≡ false
-unfolding isWhole grownBy newHead moreOf
+pub fresh-part : (l : Label) (second n : ℕ) → isComplete (grownBy (newHead l second) l n) ≡ false
+unfolding isComplete grownBy newHead moreOf
 fresh-part l second n = go (pick (l .last) (l .number) 0)
   where
     one : (x : ℕ) (b c : Bool) → eqb 1 (x + 1) ≡ c → ltb 0 x ≡ b → (ltb 0 x && ltb x 128 && eqb 1 (x + 1)) ≡ false

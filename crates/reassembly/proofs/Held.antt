@@ -10,7 +10,7 @@ use lib.ListN.{length, getD, take, drop, set, take-append-drop}
 use lib.Seq.{take-suc, getD-drop, length-take-le}
 use borrow.Author.Tests.{eq-eqb, ne-eqb, eqb-true, eqb-false, ltb-true, ltb-false}
 use Rattle.reassembly.specs.Store.{isHeld, allHeld, someHeld, joined}
-use Rattle.reassembly.specs.Message.{upTo}
+use Rattle.reassembly.specs.Message.{joinedBelow}
 use Rattle.reassembly.specs.Stands.{heldOf, series}
 use Rattle.reassembly.proofs.Series.{length-series, getD-series}
 
@@ -115,10 +115,10 @@ joined-append : (a b : List (List ℕ)) → joined (a ++ b) ≡ joined a ++ join
 joined-append [] b = refl
 joined-append (x ∷ a) b = ap (λ (z : List ℕ). x ++ z) (joined-append a b) ∙ sym (append-assoc x (joined a) (joined b))
 
-pub joined-series : (f : ℕ → List ℕ) (n k : ℕ) → k ≤ n → joined (take k (series f 0 n)) ≡ upTo f k
+pub joined-series : (f : ℕ → List ℕ) (n k : ℕ) → k ≤ n → joined (take k (series f 0 n)) ≡ joinedBelow f k
 joined-series f n zero h = refl
 joined-series f n (suc k) h =
     ap joined (take-suc (series f 0 n) k [] (omega (arith, length-series f 0 n)))
     ∙ joined-append (take k (series f 0 n)) (getD (series f 0 n) k [] ∷ [])
     ∙ ap (λ (z : List ℕ). z ++ (getD (series f 0 n) k [] ++ [])) (joined-series f n k (omega arith))
-    ∙ ap (λ (z : List ℕ). upTo f k ++ z) (append-nil (getD (series f 0 n) k []) ∙ getD-series f n k [] (omega arith))
+    ∙ ap (λ (z : List ℕ). joinedBelow f k ++ z) (append-nil (getD (series f 0 n) k []) ∙ getD-series f n k [] (omega arith))

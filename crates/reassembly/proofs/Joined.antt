@@ -15,7 +15,7 @@ use Rattle.wire.proofs.Parts.{length-part, splice-join}
 use Rattle.wire.proofs.Tests.{or-neither}
 use Rattle.reassembly.specs.declared.Entry.{Entry}
 use Rattle.reassembly.specs.Record.{roomOf, entryAt, outside, pieceAt}
-use Rattle.reassembly.specs.Message.{pieceOr, upTo, messageOf, outsideOr, someOf, joinsOutside, lengthOr, sumOf}
+use Rattle.reassembly.specs.Message.{pieceOr, joinedBelow, messageOf, outsideOr, someOf, joinsOutside, lengthOr, sumOf}
 
 pub length-room : (room : List ℕ) (i : ℕ) → 1048560 ≤ length room → i < 16 → length (roomOf room i) ≡ 65535
 unfolding roomOf
@@ -80,27 +80,27 @@ none-all p zero f = refl
 none-all p (suc n) f = rw (none-all p n (λ k h. f k (omega arith)), f n (omega arith)) refl
 
 -- one piece more
-pub more-length : (f : ℕ → List ℕ) (n : ℕ) → length (upTo f (n + 1)) ≡ length (upTo f n) + length (f n)
-more-length f n = rw add-one (length-append (upTo f n) (f n))
+pub more-length : (f : ℕ → List ℕ) (n : ℕ) → length (joinedBelow f (n + 1)) ≡ length (joinedBelow f n) + length (f n)
+more-length f n = rw add-one (length-append (joinedBelow f n) (f n))
 
-pub more-mono : (f : ℕ → List ℕ) (m n : ℕ) → m ≤ n → length (upTo f m) ≤ length (upTo f n)
+pub more-mono : (f : ℕ → List ℕ) (m n : ℕ) → m ≤ n → length (joinedBelow f m) ≤ length (joinedBelow f n)
 more-mono f m zero h = rw (m-zero m h) (omega arith)
   where
     m-zero : (m : ℕ) → m ≤ 0 → m ≡ 0
     m-zero m h = omega arith
 more-mono f m (suc n) h =
-    ⊎-elim (λ (q : m ≡ suc n). rw q (omega arith)) (λ (q : m < suc n). omega (arith, more-mono f m n (omega arith), length-append (upTo f n) (f n))) (eq-or-lt-of-le h)
+    ⊎-elim (λ (q : m ≡ suc n). rw q (omega arith)) (λ (q : m < suc n). omega (arith, more-mono f m n (omega arith), length-append (joinedBelow f n) (f n))) (eq-or-lt-of-le h)
 
 -- where none is outside, the lengths of the entries add up to the message's
 lengths : (rec room : List ℕ) (i m : ℕ) (v : List ℕ) → 1048560 ≤ length room → i < 16 → (n : ℕ) → someOf (outsideOr rec i m) n ≡ false
-    → sumOf (lengthOr rec i m (length v)) n ≡ length (upTo (pieceOr rec room i m v) n)
+    → sumOf (lengthOr rec i m (length v)) n ≡ length (joinedBelow (pieceOr rec room i m v) n)
 lengths rec room i m v long hi zero e = refl
 lengths rec room i m v long hi (suc n) e =
     let q = or-neither (someOf (outsideOr rec i m) n) (outsideOr rec i m n) e in
     let f : ℕ → List ℕ = pieceOr rec room i m v in
-    let a : sumOf (lengthOr rec i m (length v)) n ≡ length (upTo f n) = lengths rec room i m v long hi n (q .0) in
+    let a : sumOf (lengthOr rec i m (length v)) n ≡ length (joinedBelow f n) = lengths rec room i m v long hi n (q .0) in
     let b : lengthOr rec i m (length v) n ≡ length (f n) = one (ℕ-discrete n m) (q .1) in
-    omega (arith, length-append (upTo f n) (f n))
+    omega (arith, length-append (joinedBelow f n) (f n))
   where
     one : Dec (n ≡ m) → outsideOr rec i m n ≡ false → lengthOr rec i m (length v) n ≡ length (pieceOr rec room i m v n)
     one (yes y) o = length-given rec i m (length v) n y ∙ sym (ap length (piece-given rec room i m v n y))
@@ -114,9 +114,9 @@ unfolding joinsOutside messageOf
 measured rec room i m v n o size long hi eo es f = es ∙ lengths rec room i m v long hi n (sym eo ∙ f)
 
 -- a turn of a loop that lays pieces down
-pub laid-turn : (f : ℕ → List ℕ) (d : List ℕ) (k : ℕ) → length (upTo f (k + 1)) ≤ length d → splice (splice d 0 (upTo f k)) (length (upTo f k)) (f k) ≡ splice d 0 (upTo f (k + 1))
+pub laid-turn : (f : ℕ → List ℕ) (d : List ℕ) (k : ℕ) → length (joinedBelow f (k + 1)) ≤ length d → splice (splice d 0 (joinedBelow f k)) (length (joinedBelow f k)) (f k) ≡ splice d 0 (joinedBelow f (k + 1))
 laid-turn f d k h =
-    let e : length (upTo f k) ≡ 0 + length (upTo f k) = omega arith in
-    ap (λ (z : ℕ). splice (splice d 0 (upTo f k)) z (f k)) e
-    ∙ splice-join d 0 (upTo f k) (f k) (omega (arith, more-length f k))
-    ∙ ap (λ (z : ℕ). splice d 0 (upTo f z)) (sym (add-one k))
+    let e : length (joinedBelow f k) ≡ 0 + length (joinedBelow f k) = omega arith in
+    ap (λ (z : ℕ). splice (splice d 0 (joinedBelow f k)) z (f k)) e
+    ∙ splice-join d 0 (joinedBelow f k) (f k) (omega (arith, more-length f k))
+    ∙ ap (λ (z : ℕ). splice d 0 (joinedBelow f z)) (sym (add-one k))

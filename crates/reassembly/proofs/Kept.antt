@@ -17,7 +17,7 @@ use Rattle.reassembly.specs.declared.Entry.{Entry}
 use Rattle.reassembly.specs.declared.Label.{Label}
 use Rattle.reassembly.specs.Store.{isHeld, allHeld, total, complete}
 use Rattle.reassembly.specs.Record.{headAt, entryAt, withEntry, outside, roomOf, pieceAt}
-use Rattle.reassembly.specs.Judge.{pick, misfits, moreOf, grownBy, isWhole}
+use Rattle.reassembly.specs.Judge.{pick, misfits, moreOf, grownBy, isComplete}
 use Rattle.reassembly.specs.Message.{outsideOr, joinsOutside}
 use Rattle.reassembly.specs.Calls.{keptRec, keptRoom}
 use Rattle.reassembly.specs.Stands.{tableAt, messageWith, heldOf, Fine}
@@ -57,8 +57,8 @@ module _ (h : Head) (rec room : List ℕ) (i : ℕ) (f : Fine h rec room i) (lon
   held-is k hk = ap isHeld (table-at rec room i k hk) ∙ held-length (pieceAt rec room i k) ∙ ap (λ (n : ℕ). not (eqb n 0)) (piece-length k hk)
 
   -- counting tells whether the message is complete
-  pub complete-is : complete (messageWith h rec room i) ≡ isWhole h
-  unfolding complete messageWith isWhole
+  pub complete-is : complete (messageWith h rec room i) ≡ isComplete h
+  unfolding complete messageWith isComplete
   complete-is = go (ltb 0 (h .last)) refl
     where
       go : (b : Bool) → ltb 0 (h .last) ≡ b

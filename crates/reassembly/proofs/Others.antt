@@ -66,8 +66,8 @@ module _ (rec room rec′ room′ : List ℕ) (j : ℕ) (es : (k : ℕ) → k < 
   pub slot-same : headAt rec′ j ≡ headAt rec j → slotAt rec′ room′ j ≡ slotAt rec room j
   unfolding slotAt isFree messageWith
   slot-same q =
-      ap (λ (h : Head). cond (eqb (h .count) 0) none (some (record { id = h .id; opened = h .opened; typ = h .kind; expires = h .expires; last = h .last; table = tableAt rec′ room′ j }))) q
-      ∙ ap (λ (t : List (List ℕ)). cond (eqb (headAt rec j .count) 0) none (some (record { id = headAt rec j .id; opened = headAt rec j .opened; typ = headAt rec j .kind; expires = headAt rec j .expires; last = headAt rec j .last; table = t }))) table-same
+      ap (λ (h : Head). cond (eqb (h .count) 0) none (some (record { id = h .id; opened = h .opened; kind = h .kind; expires = h .expires; last = h .last; table = tableAt rec′ room′ j }))) q
+      ∙ ap (λ (t : List (List ℕ)). cond (eqb (headAt rec j .count) 0) none (some (record { id = headAt rec j .id; opened = headAt rec j .opened; kind = headAt rec j .kind; expires = headAt rec j .expires; last = headAt rec j .last; table = t }))) table-same
 
 pub free-same : (rec rec′ : List ℕ) (j : ℕ) → headAt rec′ j ≡ headAt rec j → isFree rec j ≡ isFree rec′ j
 unfolding isFree

@@ -11,11 +11,11 @@ use lib.ListN.{length, getD, set, take}
 use borrow.Author.Tests.{ne-eqb, lt-ltb, le-ltb, ltb-false, lt-leb}
 use Rattle.reassembly.specs.declared.Head.{Head}
 use Rattle.reassembly.specs.declared.Label.{Label}
-use Rattle.reassembly.specs.Store.{Piece, bytesOf, Message, Store, Answer, isHeld, joined, plus, badLength, badNumber, repeats, clashes, tooMuch, complete, wholeOf, tooShort, refused, answer}
+use Rattle.reassembly.specs.Store.{Piece, pieceBytes, Message, Store, Answer, isHeld, joined, plus, badLength, badNumber, repeats, clashes, tooMuch, complete, rebuiltOf, tooShort, refused, answer}
 use Rattle.reassembly.specs.Record.{headAt, withHead, pieceAt}
 use Rattle.reassembly.specs.Slots.{isFree}
-use Rattle.reassembly.specs.Judge.{misfits, moreOf, grownBy, isWhole, noHead}
-use Rattle.reassembly.specs.Message.{pieceOr, upTo, messageOf, joinsOutside}
+use Rattle.reassembly.specs.Judge.{misfits, moreOf, grownBy, isComplete, noHead}
+use Rattle.reassembly.specs.Message.{pieceOr, joinedBelow, messageOf, joinsOutside}
 use Rattle.reassembly.specs.Calls.{after, bare, keptRec, keptRoom, finished}
 use Rattle.reassembly.specs.Stands.{series, tableAt, messageWith, slotAt, stands, Fine, Made, labelOf, replyFor, laidOut, Agrees}
 use Rattle.reassembly.proofs.Branches.{good-size}
@@ -42,8 +42,8 @@ more-positive c = go (ltb c 255) refl
     go false e = let l : 255 ≤ c = ltb-false c 255 e in rw e (ne-eqb c 0 (λ z. omega arith))
 
 -- the bytes 1 to 1,500 of a piece that is not refused
-pub size-of : (p : Piece) → badLength p ≡ false → (1 ≤ length (bytesOf p)) × (length (bytesOf p) ≤ 1500)
-size-of p e = let q = good-size (length (bytesOf p)) (sym (good-length p) ∙ e) in (omega (arith, q .0), q .1)
+pub size-of : (p : Piece) → badLength p ≡ false → (1 ≤ length (pieceBytes p)) × (length (pieceBytes p) ≤ 1500)
+size-of p e = let q = good-size (length (pieceBytes p)) (sym (good-length p) ∙ e) in (omega (arith, q .0), q .1)
 
 -- A piece that fits a slot whose head is h.
 module _ (h : Head) (rec room : List ℕ) (i : ℕ) (f : Fine h rec room i) (rlong : 8576 ≤ length rec) (long : 1048560 ≤ length room) (hi : i < 16)
@@ -54,7 +54,7 @@ module _ (h : Head) (rec room : List ℕ) (i : ℕ) (f : Fine h rec room i) (rlo
   l = labelOf p
 
   abbrev v : List ℕ
-  v = bytesOf p
+  v = pieceBytes p
 
   abbrev g : Head
   g = grownBy h l (length v)
@@ -99,30 +99,30 @@ module _ (h : Head) (rec room : List ℕ) (i : ℕ) (f : Fine h rec room i) (rlo
     with-piece : plus m p ≡ messageWith g rec′ room′ i
     with-piece = plus-is h rec room rec′ room′ i p gn table-is
 
-    whole-is : complete (plus m p) ≡ isWhole g
+    whole-is : complete (plus m p) ≡ isComplete g
     whole-is = ap complete with-piece ∙ complete-is g rec′ room′ i fine′ long-room′ hi
 
     -- the pieces up to the last number, the new one among them, one after the other
-    bytes-are : wholeOf (plus m p) .bytes ≡ messageOf rec room i (l .number) v (g .last + 1)
-    unfolding wholeOf messageWith messageOf tableAt
+    bytes-are : rebuiltOf (plus m p) .bytes ≡ messageOf rec room i (l .number) v (g .last + 1)
+    unfolding rebuiltOf messageWith messageOf tableAt
     bytes-are =
         ap (λ (x : Message). joined (take (suc (x .last)) (x .table))) with-piece
         ∙ ap (λ (t : List (List ℕ)). joined (take (suc (g .last)) t)) (table-is ∙ sym series-is)
         ∙ joined-series (pieceOr rec room i (l .number) v) 128 (suc (g .last)) (omega (arith, fine′ .last-small))
-        ∙ ap (upTo (pieceOr rec room i (l .number) v)) (sym (add-one (g .last)))
+        ∙ ap (joinedBelow (pieceOr rec room i (l .number) v)) (sym (add-one (g .last)))
       where
         series-is : series (pieceOr rec room i (l .number) v) 0 128 ≡ set (series (pieceAt rec room i) 0 128) (l .number) v
         series-is = series-set (pieceAt rec room i) (pieceOr rec room i (l .number) v) 128 (l .number) v [] (number-small p gn)
             (piece-given rec room i (l .number) v (l .number) refl) (λ j hj q. piece-held rec room i (l .number) v j q)
 
-    whole-of : wholeOf (plus m p) ≡ record { typ = g .kind; expires = g .expires; bytes = messageOf rec room i (l .number) v (g .last + 1) }
-    whole-of = λ j. record { typ = typ-is j; expires = expires-is j; bytes = bytes-are j }
+    whole-of : rebuiltOf (plus m p) ≡ record { kind = g .kind; expires = g .expires; bytes = messageOf rec room i (l .number) v (g .last + 1) }
+    whole-of = λ j. record { kind = typ-is j; expires = expires-is j; bytes = bytes-are j }
       where
-        typ-is : wholeOf (plus m p) .typ ≡ g .kind
-        typ-is = unfold wholeOf messageWith in ap (λ (x : Message). x .typ) with-piece
+        typ-is : rebuiltOf (plus m p) .kind ≡ g .kind
+        typ-is = unfold rebuiltOf messageWith in ap (λ (x : Message). x .kind) with-piece
 
-        expires-is : wholeOf (plus m p) .expires ≡ g .expires
-        expires-is = unfold wholeOf messageWith in ap (λ (x : Message). x .expires) with-piece
+        expires-is : rebuiltOf (plus m p) .expires ≡ g .expires
+        expires-is = unfold rebuiltOf messageWith in ap (λ (x : Message). x .expires) with-piece
 
     -- the tests that the piece has passed
     no-repeat : repeats m p ≡ false
@@ -134,11 +134,11 @@ module _ (h : Head) (rec room : List ℕ) (i : ℕ) (f : Fine h rec room i) (rlo
     few : tooMuch m p ≡ false
     few = too-much h rec room i f long hi p gn ∙ le-ltb 65535 (h .total + length v) fits
 
-    pub answer-kept : isWhole g ≡ false → answer (length out) s p i m ≡ record { number = 0; out = none; store = set s i (some (plus m p)) }
+    pub answer-kept : isComplete g ≡ false → answer (length out) s p i m ≡ record { number = 0; out = none; store = set s i (some (plus m p)) }
     answer-kept w = Stores.answer-kept (length out) s p i m gl gn no-repeat no-clash hi few (whole-is ∙ w)
 
-    answer-whole : isWhole g ≡ true → answer (length out) s p i m
-        ≡ cond (tooShort (length out) (plus m p)) (refused 56 s) (record { number = 60; out = some (wholeOf (plus m p)); store = set s i none })
+    answer-whole : isComplete g ≡ true → answer (length out) s p i m
+        ≡ cond (tooShort (length out) (plus m p)) (refused 56 s) (record { number = 60; out = some (rebuiltOf (plus m p)); store = set s i none })
     answer-whole w = Stores.answer-whole (length out) s p i m gl gn no-repeat no-clash hi few (whole-is ∙ w)
 
     short-is : tooShort (length out) (plus m p) ≡ ltb (length out) (length (messageOf rec room i (l .number) v (g .last + 1)))
@@ -173,11 +173,11 @@ module _ (h : Head) (rec room : List ℕ) (i : ℕ) (f : Fine h rec room i) (rlo
     joins = joins-inside h rec room i f long hi (l .number) (g .last + 1) (omega (arith, fine′ .last-small))
 
     -- the message is finished
-    pub finished-agrees : Made rec room → isWhole g ≡ true → s ≡ stands rec room → Agrees out (finished rec room out i l g v) (answer (length out) s p i m)
+    pub finished-agrees : Made rec room → isComplete g ≡ true → s ≡ stands rec room → Agrees out (finished rec room out i l g v) (answer (length out) s p i m)
     finished-agrees made w es = subst (λ (a : Answer). Agrees out (finished rec room out i l g v) a) (sym (answer-whole w)) (go (ltb (length out) (length (messageOf rec room i (l .number) v (g .last + 1)))) refl)
       where
         go : (b : Bool) → ltb (length out) (length (messageOf rec room i (l .number) v (g .last + 1))) ≡ b
-            → Agrees out (finished rec room out i l g v) (cond (tooShort (length out) (plus m p)) (refused 56 s) (record { number = 60; out = some (wholeOf (plus m p)); store = set s i none }))
+            → Agrees out (finished rec room out i l g v) (cond (tooShort (length out) (plus m p)) (refused 56 s) (record { number = 60; out = some (rebuiltOf (plus m p)); store = set s i none }))
         go true e = unfold finished in rw (joins, short-is, e, es) (refusal rec room out 56 made)
         go false e = unfold finished in rw (joins, short-is, e, es, whole-of)
             (record {

@@ -13,9 +13,9 @@ use Rattle.reassembly.specs.declared.Label.{Label}
 use Rattle.reassembly.specs.declared.Reply.{Reply}
 use Rattle.reassembly.specs.Record.{headAt, entryAt}
 use Rattle.reassembly.specs.Slots.{firstFrom, isOpenAs, isFree}
-use Rattle.reassembly.specs.Judge.{misfits, grownBy, isWhole}
+use Rattle.reassembly.specs.Judge.{misfits, grownBy, isComplete}
 use Rattle.reassembly.specs.Message.{messageOf, joinsOutside}
-use Rattle.reassembly.specs.Calls.{After, after, bare, keptRoom, finished, putIn, added, openedIn, openedNow, taken, isShort, badSize, offNumber, firstCall, followOnCall}
+use Rattle.reassembly.specs.Calls.{After, after, bare, keptRoom, finished, putIn, added, openedIn, openedNow, takenPiece, lentShort, badSize, offNumber, firstCall, followOnCall}
 use Rattle.reassembly.specs.Careful.{Careful, CarefulFirst, CarefulFollowOn}
 use Rattle.reassembly.proofs.Branches.{good-size}
 
@@ -41,7 +41,7 @@ module _ (rec room out : List ℕ) where
     unfolding putIn keptRoom bare
     careful-put i hi h =
         both (ltb 65535 (h .total + length v)) _ _ (λ e. refused (bare 53))
-        (λ e. both (isWhole (grownBy h l (length v))) _ _ (λ w. careful-finished i (grownBy h l (length v)))
+        (λ e. both (isComplete (grownBy h l (length v))) _ _ (λ w. careful-finished i (grownBy h l (length v)))
         (λ w. record {
           refusal = inl refl;
           own-room = inr (record { slot = i; place = h .total; bytes = v; one-of-16 = hi; inside = ltb-false 65535 (h .total + length v) e; written = refl });
@@ -63,8 +63,8 @@ module _ (rec room out : List ℕ) where
           own-room = inr (record { slot = firstFrom (isFree rec) 0 16; place = 0; bytes = v; one-of-16 = leb-false 16 (firstFrom (isFree rec) 0 16) e; inside = omega arith; written = refl });
         })
 
-    careful-taken : (second : ℕ) → length v ≤ 1500 → Careful rec room out (taken rec room out l second v)
-    unfolding taken
+    careful-taken : (second : ℕ) → length v ≤ 1500 → Careful rec room out (takenPiece rec room out l second v)
+    unfolding takenPiece
     careful-taken second few =
         both (ltb (firstFrom (isOpenAs rec (l .id)) 0 16) 16) _ _
         (λ e. careful-added (firstFrom (isOpenAs rec (l .id)) 0 16) (ltb-true (firstFrom (isOpenAs rec (l .id)) 0 16) 16 e))
@@ -73,12 +73,12 @@ module _ (rec room out : List ℕ) where
 pub careful-first : CarefulFirst
 unfolding firstCall
 careful-first rec room out l second v =
-    both rec room out (isShort rec room) _ _ (λ e. refused rec room out (bare 59))
+    both rec room out (lentShort rec room) _ _ (λ e. refused rec room out (bare 59))
     (λ e. both rec room out (badSize (length v)) _ _ (λ w. refused rec room out (bare 50)) (λ w. careful-taken rec room out l v second (good-size (length v) w .1)))
 
 pub careful-follow-on : CarefulFollowOn
 unfolding followOnCall
 careful-follow-on rec room out l second v =
-    both rec room out (isShort rec room) _ _ (λ e. refused rec room out (bare 59))
+    both rec room out (lentShort rec room) _ _ (λ e. refused rec room out (bare 59))
     (λ e. both rec room out (badSize (length v)) _ _ (λ w. refused rec room out (bare 50))
     (λ w. both rec room out (offNumber (l .number)) _ _ (λ n. refused rec room out (bare 51)) (λ n. careful-taken rec room out l v second (good-size (length v) w .1))))

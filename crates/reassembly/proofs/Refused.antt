@@ -12,9 +12,9 @@ use Rattle.reassembly.specs.declared.Head.{Head}
 use Rattle.reassembly.specs.declared.Label.{Label}
 use Rattle.reassembly.specs.Record.{headAt, entryAt, outside, pieceAt}
 use Rattle.reassembly.specs.Slots.{firstFrom, isOpenAs, isFree}
-use Rattle.reassembly.specs.Judge.{sameLabel, again, misfits, grownBy, isWhole}
+use Rattle.reassembly.specs.Judge.{sameLabel, again, misfits, grownBy, isComplete}
 use Rattle.reassembly.specs.Message.{messageOf, joinsOutside}
-use Rattle.reassembly.specs.Calls.{After, bare, finished, putIn, compared, added, openedIn, openedNow, taken, isShort, badSize, offNumber, firstCall, followOnCall, renewed, renewal}
+use Rattle.reassembly.specs.Calls.{After, bare, finished, putIn, compared, added, openedIn, openedNow, takenPiece, lentShort, badSize, offNumber, firstCall, followOnCall, renewed, renewal}
 
 -- kept and finished, then the refusals of a first piece, and of a follow-on
 abbrev pub firstNumbers : List ℕ
@@ -51,7 +51,7 @@ module _ (rec room out : List ℕ) (l : Label) (v : List ℕ) where
   unfolding putIn bare
   says-put i h =
       both (ltb 65535 (h .total + length v)) _ _ (inr (inr (inr (inr (inl refl)))))
-      (both (isWhole (grownBy h l (length v))) _ _ (says-finished i (grownBy h l (length v))) (inl refl))
+      (both (isComplete (grownBy h l (length v))) _ _ (says-finished i (grownBy h l (length v))) (inl refl))
 
   says-added : (i : ℕ) → Says (added rec room out i l v)
   unfolding added bare
@@ -60,8 +60,8 @@ module _ (rec room out : List ℕ) (l : Label) (v : List ℕ) where
       (both (misfits (headAt rec i) l) _ _ (inr (inr (inr (inr (inr (inr (inl refl))))))) (says-put i (headAt rec i)))
       (says-compared rec room i (headAt rec i) l v)
 
-  says-taken : (second : ℕ) → Says (taken rec room out l second v)
-  unfolding taken openedNow openedIn bare
+  says-taken : (second : ℕ) → Says (takenPiece rec room out l second v)
+  unfolding takenPiece openedNow openedIn bare
   says-taken second =
       both (ltb (firstFrom (isOpenAs rec (l .id)) 0 16) 16) _ _
       (says-added (firstFrom (isOpenAs rec (l .id)) 0 16))
@@ -71,7 +71,7 @@ module _ (rec room out : List ℕ) (l : Label) (v : List ℕ) where
 pub first-numbers : (rec room out : List ℕ) (l : Label) (second : ℕ) (v : List ℕ) → OneOf firstNumbers (firstCall rec room out l second v .reply .number)
 unfolding firstCall bare
 first-numbers rec room out l second v =
-    both (isShort rec room) _ _ (inr (inr (inr (inr (inr (inr (inr (inr refl))))))))
+    both (lentShort rec room) _ _ (inr (inr (inr (inr (inr (inr (inr (inr refl))))))))
     (both (badSize (length v)) _ _ (inr (inr (inl refl))) (says-taken rec room out l v second))
 
 -- a follow-on's numbers are a first piece's, and 51
@@ -84,7 +84,7 @@ of-first n (inr (inr (inr e))) = inr (inr (inr (inr e)))
 pub follow-on-numbers : (rec room out : List ℕ) (l : Label) (second : ℕ) (v : List ℕ) → OneOf followOnNumbers (followOnCall rec room out l second v .reply .number)
 unfolding followOnCall bare
 follow-on-numbers rec room out l second v =
-    either (isShort rec room) _ _ (inr (inr (inr (inr (inr (inr (inr (inr (inr refl)))))))))
+    either (lentShort rec room) _ _ (inr (inr (inr (inr (inr (inr (inr (inr (inr refl)))))))))
     (either (badSize (length v)) _ _ (inr (inr (inl refl)))
     (either (offNumber (l .number)) _ _ (inr (inr (inr (inl refl)))) (of-first _ (says-taken rec room out l v second))))
   where

@@ -11,11 +11,11 @@ use borrow.Author.Tests.{lt-ltb, le-ltb, ltb-true, ltb-false, le-leb, leb-true, 
 use Rattle.wire.specs.Parts.{same}
 use Rattle.reassembly.specs.declared.Head.{Head}
 use Rattle.reassembly.specs.declared.Label.{Label}
-use Rattle.reassembly.specs.Store.{Piece, first, follow, idOf, bytesOf, Message, Store, isHeld, findId, findFree, placeOf, messageOr, plus, badLength, badNumber, repeats, clashes, refused, answer, step}
+use Rattle.reassembly.specs.Store.{Piece, first, follow, idOf, pieceBytes, Message, Store, isHeld, findId, findFree, placeOf, messageOr, plus, badLength, badNumber, repeats, clashes, refused, answer, step}
 use Rattle.reassembly.specs.Record.{headAt, entryAt, outside, pieceAt, cleared}
 use Rattle.reassembly.specs.Slots.{firstFrom, isOpenAs, isFree}
-use Rattle.reassembly.specs.Judge.{sameLabel, again, misfits, grownBy, isWhole, newHead}
-use Rattle.reassembly.specs.Calls.{After, after, bare, keptRec, keptRoom, putIn, compared, added, openedIn, openedNow, taken, isShort, badSize, offNumber, firstCall, followOnCall}
+use Rattle.reassembly.specs.Judge.{sameLabel, again, misfits, grownBy, isComplete, newHead}
+use Rattle.reassembly.specs.Calls.{After, after, bare, keptRec, keptRoom, putIn, compared, added, openedIn, openedNow, takenPiece, lentShort, badSize, offNumber, firstCall, followOnCall}
 use Rattle.reassembly.specs.Stands.{series, tableAt, messageWith, slotAt, stands, Fine, Made, labelOf, Agrees}
 use Rattle.reassembly.proofs.Series.{length-series, getD-series, isNone, hasId, found-is, vacant-is, first-passes, free-none}
 use Rattle.reassembly.proofs.Written.{length-cleared}
@@ -39,7 +39,7 @@ module _ (rec room out : List ℕ) (made : Made rec room) (p : Piece) (second : 
   l = labelOf p
 
   abbrev v : List ℕ
-  v = bytesOf p
+  v = pieceBytes p
 
   abbrev s : Store
   s = stands rec room
@@ -60,9 +60,9 @@ module _ (rec room out : List ℕ) (made : Made rec room) (p : Piece) (second : 
 
     put-agrees : isHeld (getD (tableAt rec room i) (l .number) []) ≡ false → misfits h l ≡ false → Agrees out (putIn rec room out i h l v) (answer (length out) s p i m)
     unfolding putIn
-    put-agrees free ok = go (ltb 65535 (h .total + length v)) refl (isWhole (grownBy h l (length v))) refl
+    put-agrees free ok = go (ltb 65535 (h .total + length v)) refl (isComplete (grownBy h l (length v))) refl
       where
-        go : (b : Bool) → ltb 65535 (h .total + length v) ≡ b → (c : Bool) → isWhole (grownBy h l (length v)) ≡ c → Agrees out (putIn rec room out i h l v) (answer (length out) s p i m)
+        go : (b : Bool) → ltb 65535 (h .total + length v) ≡ b → (c : Bool) → isComplete (grownBy h l (length v)) ≡ c → Agrees out (putIn rec room out i h l v) (answer (length out) s p i m)
         go true e c w =
             let a : answer (length out) s p i m ≡ refused 53 s
             = answer-53 h rec room i f (made .record-long) (made .room-long) hi p gl gn (fit .expires) free ok out s (ltb-true 65535 (h .total + length v) e) in
@@ -140,7 +140,7 @@ module _ (rec room out : List ℕ) (made : Made rec room) (p : Piece) (second : 
   unfolding isOpenAs slotAt isFree messageWith
   open-test k = go (eqb (headAt rec k .count) 0)
     where
-      go : (b : Bool) → (not b && eqb (headAt rec k .id) (l .id)) ≡ hasId (l .id) (cond b none (some (record { id = headAt rec k .id; opened = headAt rec k .opened; typ = headAt rec k .kind; expires = headAt rec k .expires; last = headAt rec k .last; table = tableAt rec room k })))
+      go : (b : Bool) → (not b && eqb (headAt rec k .id) (l .id)) ≡ hasId (l .id) (cond b none (some (record { id = headAt rec k .id; opened = headAt rec k .opened; kind = headAt rec k .kind; expires = headAt rec k .expires; last = headAt rec k .last; table = tableAt rec room k })))
       go true = refl
       go false = refl
 
@@ -207,12 +207,12 @@ module _ (rec room out : List ℕ) (made : Made rec room) (p : Piece) (second : 
       = ap (λ (z : Message). clashes z p) e ∙ clashes-free (newHead l second) (cleared rec 0) room 0 f₀ (made .room-long) zero-in p gn free₀ ∙ fresh-fits l second in
       rw (gl, gn, r, c, le-leb 16 k n) refl
 
-  pub taken-agrees : Agrees out (taken rec room out l second v) (step (length out) s p second)
-  unfolding taken openedNow
+  pub taken-agrees : Agrees out (takenPiece rec room out l second v) (step (length out) s p second)
+  unfolding takenPiece openedNow
   taken-agrees = go (ltb (firstFrom (isOpenAs rec (l .id)) 0 16) 16) refl (leb 16 (firstFrom (isFree rec) 0 16)) refl
     where
       go : (b : Bool) → ltb (firstFrom (isOpenAs rec (l .id)) 0 16) 16 ≡ b → (c : Bool) → leb 16 (firstFrom (isFree rec) 0 16) ≡ c
-          → Agrees out (taken rec room out l second v) (step (length out) s p second)
+          → Agrees out (takenPiece rec room out l second v) (step (length out) s p second)
       go true e c q =
           let k : ℕ = firstFrom (isOpenAs rec (l .id)) 0 16 in
           let hk : firstFrom (isOpenAs rec (l .id)) 0 16 < 16 = ltb-true (firstFrom (isOpenAs rec (l .id)) 0 16) 16 e in
@@ -227,8 +227,8 @@ module _ (rec room out : List ℕ) (made : Made rec room) (p : Piece) (second : 
           rw (e, q, step-new n) (opened-agrees (firstFrom (isFree rec) 0 16) (leb-false 16 (firstFrom (isFree rec) 0 16) q))
 
 -- lengths of a record and a room that calls made
-long-enough : (rec room : List ℕ) → Made rec room → isShort rec room ≡ false
-unfolding isShort
+long-enough : (rec room : List ℕ) → Made rec room → lentShort rec room ≡ false
+unfolding lentShort
 long-enough rec room m = rw (le-ltb (length rec) 8576 (m .record-long), le-ltb (length room) 1048560 (m .room-long)) refl
 
 step-50 : (cap : ℕ) (s : Store) (p : Piece) (second : ℕ) → badLength p ≡ true → step cap s p second ≡ refused 50 s
@@ -240,23 +240,23 @@ unfolding step answer
 step-51 cap s p second e n = rw (e, n) refl
 
 -- a first piece, and a follow-on piece, of any length and number
-pub first-agrees : (rec room out : List ℕ) (made : Made rec room) (id typ expires second : ℕ) (bytes : List ℕ) → Fits (first id typ expires bytes) second
-    → Agrees out (firstCall rec room out (labelOf (first id typ expires bytes)) second bytes) (step (length out) (stands rec room) (first id typ expires bytes) second)
-unfolding firstCall bytesOf badNumber
-first-agrees rec room out made id typ expires second bytes fit = go (badSize (length bytes)) refl
+pub first-agrees : (rec room out : List ℕ) (made : Made rec room) (id kind expires second : ℕ) (bytes : List ℕ) → Fits (first id kind expires bytes) second
+    → Agrees out (firstCall rec room out (labelOf (first id kind expires bytes)) second bytes) (step (length out) (stands rec room) (first id kind expires bytes) second)
+unfolding firstCall pieceBytes badNumber
+first-agrees rec room out made id kind expires second bytes fit = go (badSize (length bytes)) refl
   where
     go : (b : Bool) → badSize (length bytes) ≡ b
-        → Agrees out (firstCall rec room out (labelOf (first id typ expires bytes)) second bytes) (step (length out) (stands rec room) (first id typ expires bytes) second)
+        → Agrees out (firstCall rec room out (labelOf (first id kind expires bytes)) second bytes) (step (length out) (stands rec room) (first id kind expires bytes) second)
     go true e =
-        rw (long-enough rec room made, e, step-50 (length out) (stands rec room) (first id typ expires bytes) second (good-length (first id typ expires bytes) ∙ e))
+        rw (long-enough rec room made, e, step-50 (length out) (stands rec room) (first id kind expires bytes) second (good-length (first id kind expires bytes) ∙ e))
         (refusal rec room out 50 made)
     go false e =
         rw (long-enough rec room made, e)
-        (taken-agrees rec room out made (first id typ expires bytes) second (good-length (first id typ expires bytes) ∙ e) refl fit)
+        (taken-agrees rec room out made (first id kind expires bytes) second (good-length (first id kind expires bytes) ∙ e) refl fit)
 
 pub follow-agrees : (rec room out : List ℕ) (made : Made rec room) (id number : ℕ) (final : Bool) (second : ℕ) (bytes : List ℕ) → Fits (follow id number final bytes) second
     → Agrees out (followOnCall rec room out (labelOf (follow id number final bytes)) second bytes) (step (length out) (stands rec room) (follow id number final bytes) second)
-unfolding followOnCall bytesOf badNumber offNumber labelOf
+unfolding followOnCall pieceBytes badNumber offNumber labelOf
 follow-agrees rec room out made id number final second bytes fit = go (badSize (length bytes)) refl (eqb number 0 || ltb 127 number) refl
   where
     go : (b : Bool) → badSize (length bytes) ≡ b → (c : Bool) → (eqb number 0 || ltb 127 number) ≡ c
@@ -272,13 +272,13 @@ follow-agrees rec room out made id number final second bytes fit = go (badSize (
         (taken-agrees rec room out made (follow id number final bytes) second (good-length (follow id number final bytes) ∙ e) n fit)
 
 -- The promises of the calls, from the equations that they state.
-pub first-promise : (rec room out : List ℕ) (id typ expires second : ℕ) (bytes : List ℕ) (x : After) → id < 4294967296 → expires < 4294967296 → second < 18446744073709551616
-    → x ≡ firstCall rec room out (record { id = id; number = 0; last = false; kind = typ; expires = expires }) second bytes
-    → Made rec room → Agrees out x (step (length out) (stands rec room) (first id typ expires bytes) second)
+pub first-promise : (rec room out : List ℕ) (id kind expires second : ℕ) (bytes : List ℕ) (x : After) → id < 4294967296 → expires < 4294967296 → second < 18446744073709551616
+    → x ≡ firstCall rec room out (record { id = id; number = 0; last = false; kind = kind; expires = expires }) second bytes
+    → Made rec room → Agrees out x (step (length out) (stands rec room) (first id kind expires bytes) second)
 unfolding labelOf
-first-promise rec room out id typ expires second bytes x hi hx hs e made =
-    subst (λ (y : After). Agrees out y (step (length out) (stands rec room) (first id typ expires bytes) second)) (sym e)
-    (first-agrees rec room out made id typ expires second bytes (record { id = hi; expires = hx; second-fits = hs }))
+first-promise rec room out id kind expires second bytes x hi hx hs e made =
+    subst (λ (y : After). Agrees out y (step (length out) (stands rec room) (first id kind expires bytes) second)) (sym e)
+    (first-agrees rec room out made id kind expires second bytes (record { id = hi; expires = hx; second-fits = hs }))
 
 pub follow-promise : (rec room out : List ℕ) (id number : ℕ) (final : Bool) (second : ℕ) (bytes : List ℕ) (x : After) → id < 4294967296 → second < 18446744073709551616
     → x ≡ followOnCall rec room out (record { id = id; number = number; last = final; kind = 0; expires = 0 }) second bytes

@@ -11,19 +11,19 @@ use lib.ListN.{length, getD, take, drop, set, replicate, length-map, length-repl
 use lib.Seq.{getD-drop, getD-take, ext-getD, length-take-le}
 use borrow.Author.Tests.{eq-eqb, ne-eqb, lt-ltb, le-ltb, le-leb, lt-leb, eqb-true, eqb-false, ltb-true, ltb-false}
 use Rattle.wire.proofs.Same.{eq-same}
-use Rattle.reassembly.specs.Store.{Piece, first, follow, idOf, numberOf, finalOf, bytesOf, Message, Store, empty, allHeld, someHeld, total, joined, findId, findFree, placeOf, messageOr, plus, badLength, badNumber, repeats, clashes, tooMuch, complete, wholeOf, tooShort, refused, answer, step, sweptOne, sweep}
+use Rattle.reassembly.specs.Store.{Piece, first, follow, idOf, numberOf, finalOf, pieceBytes, Message, Store, empty, allHeld, someHeld, total, joined, findId, findFree, placeOf, messageOr, plus, badLength, badNumber, repeats, clashes, tooMuch, complete, rebuiltOf, tooShort, refused, answer, step, sweptOne, sweep}
 use Rattle.reassembly.proofs.Table.{held-of-length, total-set, total-set-le, total-take, length-joined, none-held}
 
 -- ---- the parts of a piece
 
-pub first-parts : (id typ expires : ℕ) (bytes : List ℕ) → (idOf (first id typ expires bytes) ≡ id) × (numberOf (first id typ expires bytes) ≡ 0)
-    × (finalOf (first id typ expires bytes) ≡ false) × (bytesOf (first id typ expires bytes) ≡ bytes)
-unfolding idOf numberOf finalOf bytesOf
-first-parts id typ expires bytes = (refl, refl, refl, refl)
+pub first-parts : (id kind expires : ℕ) (bytes : List ℕ) → (idOf (first id kind expires bytes) ≡ id) × (numberOf (first id kind expires bytes) ≡ 0)
+    × (finalOf (first id kind expires bytes) ≡ false) × (pieceBytes (first id kind expires bytes) ≡ bytes)
+unfolding idOf numberOf finalOf pieceBytes
+first-parts id kind expires bytes = (refl, refl, refl, refl)
 
 pub follow-parts : (id number : ℕ) (final : Bool) (bytes : List ℕ) → (idOf (follow id number final bytes) ≡ id) × (numberOf (follow id number final bytes) ≡ number)
-    × (finalOf (follow id number final bytes) ≡ final) × (bytesOf (follow id number final bytes) ≡ bytes)
-unfolding idOf numberOf finalOf bytesOf
+    × (finalOf (follow id number final bytes) ≡ final) × (pieceBytes (follow id number final bytes) ≡ bytes)
+unfolding idOf numberOf finalOf pieceBytes
 follow-parts id number final bytes = (refl, refl, refl, refl)
 
 -- ---- where an id is found, and which place is free
@@ -93,75 +93,75 @@ free-inside (some x ∷ s) (suc k) h e =
 
 -- ---- what stands there
 
-pub message-open : (m : Message) (id now : ℕ) → messageOr (some m) id now ≡ m
+pub message-open : (m : Message) (id second : ℕ) → messageOr (some m) id second ≡ m
 unfolding messageOr
-message-open m id now = refl
+message-open m id second = refl
 
 -- m is a message of this id, opened now, of which nothing is held
-pub record Blank (id now : ℕ) (m : Message) : Type 0 where
+pub record Blank (id second : ℕ) (m : Message) : Type 0 where
   pub its-id : m .id ≡ id
-  pub opened : m .opened ≡ now
+  pub opened : m .opened ≡ second
   pub last : m .last ≡ 0
   pub size : length (m .table) ≡ 128
   pub none-there : (i : ℕ) → getD (m .table) i [] ≡ []
 
-pub message-new : (id now : ℕ) → Blank id now (messageOr none id now)
+pub message-new : (id second : ℕ) → Blank id second (messageOr none id second)
 unfolding messageOr
-message-new id now = record { its-id = refl; opened = refl; last = refl; size = length-replicate {A = List ℕ} 128 []; none-there = λ i. all-same 128 i [] }
+message-new id second = record { its-id = refl; opened = refl; last = refl; size = length-replicate {A = List ℕ} 128 []; none-there = λ i. all-same 128 i [] }
 
 -- ---- a message with one piece more
 
 module _ (m : Message) where
   pub plus-id : (p : Piece) → plus m p .id ≡ m .id
   unfolding plus
-  plus-id (first id typ expires bytes) = refl
+  plus-id (first id kind expires bytes) = refl
   plus-id (follow id number final bytes) = refl
 
   pub plus-opened : (p : Piece) → plus m p .opened ≡ m .opened
   unfolding plus
-  plus-opened (first id typ expires bytes) = refl
+  plus-opened (first id kind expires bytes) = refl
   plus-opened (follow id number final bytes) = refl
 
   pub plus-last : (p : Piece) → plus m p .last ≡ cond (finalOf p) (numberOf p) (m .last)
   unfolding plus finalOf numberOf
-  plus-last (first id typ expires bytes) = refl
+  plus-last (first id kind expires bytes) = refl
   plus-last (follow id number final bytes) = refl
 
-  pub plus-table : (p : Piece) → plus m p .table ≡ set (m .table) (numberOf p) (bytesOf p)
-  unfolding plus numberOf bytesOf
-  plus-table (first id typ expires bytes) = refl
+  pub plus-table : (p : Piece) → plus m p .table ≡ set (m .table) (numberOf p) (pieceBytes p)
+  unfolding plus numberOf pieceBytes
+  plus-table (first id kind expires bytes) = refl
   plus-table (follow id number final bytes) = refl
 
   -- the head comes with number 0
-  pub plus-first : (id typ expires : ℕ) (bytes : List ℕ) → (plus m (first id typ expires bytes) .typ ≡ typ) × (plus m (first id typ expires bytes) .expires ≡ expires)
+  pub plus-first : (id kind expires : ℕ) (bytes : List ℕ) → (plus m (first id kind expires bytes) .kind ≡ kind) × (plus m (first id kind expires bytes) .expires ≡ expires)
   unfolding plus
-  plus-first id typ expires bytes = (refl, refl)
+  plus-first id kind expires bytes = (refl, refl)
 
-  pub plus-follow : (id number : ℕ) (final : Bool) (bytes : List ℕ) → (plus m (follow id number final bytes) .typ ≡ m .typ) × (plus m (follow id number final bytes) .expires ≡ m .expires)
+  pub plus-follow : (id number : ℕ) (final : Bool) (bytes : List ℕ) → (plus m (follow id number final bytes) .kind ≡ m .kind) × (plus m (follow id number final bytes) .expires ≡ m .expires)
   unfolding plus
   plus-follow id number final bytes = (refl, refl)
 
 -- ---- the tests of a piece
 
 -- 50 is not for 1 to 1,500 bytes
-pub length-good : (p : Piece) → 1 ≤ length (bytesOf p) → length (bytesOf p) ≤ 1500 → badLength p ≡ false
+pub length-good : (p : Piece) → 1 ≤ length (pieceBytes p) → length (pieceBytes p) ≤ 1500 → badLength p ≡ false
 unfolding badLength
-length-good p a b = rw (ne-eqb (length (bytesOf p)) 0 (λ e. omega arith), le-ltb 1500 (length (bytesOf p)) b) refl
+length-good p a b = rw (ne-eqb (length (pieceBytes p)) 0 (λ e. omega arith), le-ltb 1500 (length (pieceBytes p)) b) refl
 
 -- 51 is not for a first piece, nor for a follow-on with a number from 1 to 127
-pub first-good : (id typ expires : ℕ) (bytes : List ℕ) → badNumber (first id typ expires bytes) ≡ false
+pub first-good : (id kind expires : ℕ) (bytes : List ℕ) → badNumber (first id kind expires bytes) ≡ false
 unfolding badNumber
-first-good id typ expires bytes = refl
+first-good id kind expires bytes = refl
 
 pub follow-good : (id number : ℕ) (final : Bool) (bytes : List ℕ) → 1 ≤ number → number ≤ 127 → badNumber (follow id number final bytes) ≡ false
 unfolding badNumber
 follow-good id number final bytes a b = rw (ne-eqb number 0 (λ e. omega arith), le-ltb 127 number b) refl
 
 -- 54: the bytes are those that are held of the number, and so is the head, or the flag
-pub first-repeats : (m : Message) (id typ expires : ℕ) (bytes : List ℕ) → 1 ≤ length bytes → getD (m .table) 0 [] ≡ bytes → m .typ ≡ typ → m .expires ≡ expires
-    → repeats m (first id typ expires bytes) ≡ true
+pub first-repeats : (m : Message) (id kind expires : ℕ) (bytes : List ℕ) → 1 ≤ length bytes → getD (m .table) 0 [] ≡ bytes → m .kind ≡ kind → m .expires ≡ expires
+    → repeats m (first id kind expires bytes) ≡ true
 unfolding repeats
-first-repeats m id typ expires bytes h t a b = rw (t, held-of-length bytes h, eq-same bytes, eq-eqb (m .typ) typ a, eq-eqb (m .expires) expires b) refl
+first-repeats m id kind expires bytes h t a b = rw (t, held-of-length bytes h, eq-same bytes, eq-eqb (m .kind) kind a, eq-eqb (m .expires) expires b) refl
 
 pub follow-repeats : (m : Message) (id number : ℕ) (final : Bool) (bytes : List ℕ) → 1 ≤ length bytes → getD (m .table) number [] ≡ bytes → eqb (m .last) number ≡ final
     → repeats m (follow id number final bytes) ≡ true
@@ -175,7 +175,7 @@ follow-repeats m id number final bytes h t a = rw (t, held-of-length bytes h, eq
 -- A piece whose number is not held is no repeat,
 pub no-repeat : (m : Message) (p : Piece) → getD (m .table) (numberOf p) [] ≡ [] → repeats m p ≡ false
 unfolding repeats numberOf
-no-repeat m (first id typ expires bytes) e = rw e refl
+no-repeat m (first id kind expires bytes) e = rw e refl
 no-repeat m (follow id number final bytes) e = rw e refl
 
 -- and it does not clash if it is not above a known last and, as a last, comes before any other and above all that are held.
@@ -199,10 +199,10 @@ no-clash m p free below lasts = rw (free, above (ltb 0 (m .last)) refl, final (f
 pub not-too-much : (m : Message) (p : Piece) → numberOf p < length (m .table) → getD (m .table) (numberOf p) [] ≡ [] → total (plus m p .table) ≤ 65535 → tooMuch m p ≡ false
 unfolding tooMuch
 not-too-much m p h free few =
-    let a : total (plus m p .table) ≡ total (set (m .table) (numberOf p) (bytesOf p)) = ap total (plus-table m p) in
-    let b : total (set (m .table) (numberOf p) (bytesOf p)) + length (getD (m .table) (numberOf p) []) ≡ total (m .table) + length (bytesOf p) = total-set (m .table) (numberOf p) (bytesOf p) h in
+    let a : total (plus m p .table) ≡ total (set (m .table) (numberOf p) (pieceBytes p)) = ap total (plus-table m p) in
+    let b : total (set (m .table) (numberOf p) (pieceBytes p)) + length (getD (m .table) (numberOf p) []) ≡ total (m .table) + length (pieceBytes p) = total-set (m .table) (numberOf p) (pieceBytes p) h in
     let z : length (getD (m .table) (numberOf p) []) ≡ 0 = ap length free in
-    le-ltb 65535 (total (m .table) + length (bytesOf p)) (omega arith)
+    le-ltb 65535 (total (m .table) + length (pieceBytes p)) (omega arith)
 
 -- ---- a complete message
 
@@ -216,9 +216,9 @@ complete-unknown m e = rw (le-ltb 0 (m .last) (omega arith)) refl
 
 -- A message that holds some pieces, up to its last number, comes out as their bytes, one after the other.
 pub whole-is : (m : Message) (pieces : List (List ℕ)) → suc (m .last) ≡ length pieces → length pieces ≤ length (m .table)
-    → ((i : ℕ) → i < length pieces → getD (m .table) i [] ≡ getD pieces i []) → wholeOf m ≡ record { typ = m .typ; expires = m .expires; bytes = joined pieces }
-unfolding wholeOf
-whole-is m pieces last long held = λ j. record { typ = m .typ; expires = m .expires; bytes = joined (same j) }
+    → ((i : ℕ) → i < length pieces → getD (m .table) i [] ≡ getD pieces i []) → rebuiltOf m ≡ record { kind = m .kind; expires = m .expires; bytes = joined pieces }
+unfolding rebuiltOf
+whole-is m pieces last long held = λ j. record { kind = m .kind; expires = m .expires; bytes = joined (same j) }
   where
     size : length (take (suc (m .last)) (m .table)) ≡ length pieces
     size = length-take-le (suc (m .last)) (m .table) (omega (arith, last, long)) ∙ last
@@ -230,16 +230,16 @@ whole-is m pieces last long held = λ j. record { typ = m .typ; expires = m .exp
     same = ext-getD [] (take (suc (m .last)) (m .table)) pieces size at
 
 -- 56 is not for a buffer that what comes out fits in
-pub not-too-short : (cap : ℕ) (m : Message) → length (wholeOf m .bytes) ≤ cap → tooShort cap m ≡ false
+pub not-too-short : (cap : ℕ) (m : Message) → length (rebuiltOf m .bytes) ≤ cap → tooShort cap m ≡ false
 unfolding tooShort
-not-too-short cap m h = le-ltb cap (length (wholeOf m .bytes)) h
+not-too-short cap m h = le-ltb cap (length (rebuiltOf m .bytes)) h
 
 -- ---- the answer to a piece
 
 -- A step is the answer at the piece's place to the message that stands there.
-pub step-is : (cap : ℕ) (s : Store) (p : Piece) (now k : ℕ) (m : Message) → placeOf (idOf p) s ≡ k → messageOr (getD s k none) (idOf p) now ≡ m → step cap s p now ≡ answer cap s p k m
+pub step-is : (cap : ℕ) (s : Store) (p : Piece) (second k : ℕ) (m : Message) → placeOf (idOf p) s ≡ k → messageOr (getD s k none) (idOf p) second ≡ m → step cap s p second ≡ answer cap s p k m
 unfolding step
-step-is cap s p now k m a b = rw (a, b) refl
+step-is cap s p second k m a b = rw (a, b) refl
 
 module _ (cap : ℕ) (s : Store) (p : Piece) (k : ℕ) (m : Message) (gl : badLength p ≡ false) (gn : badNumber p ≡ false) where
   -- A repeat is answered by 54 and changes nothing.
@@ -255,62 +255,62 @@ module _ (cap : ℕ) (s : Store) (p : Piece) (k : ℕ) (m : Message) (gl : badLe
 
     -- the last missing one is 56 where the buffer is too short;
     pub answer-whole : complete (plus m p) ≡ true → answer cap s p k m
-        ≡ cond (tooShort cap (plus m p)) (refused 56 s) (record { number = 60; out = some (wholeOf (plus m p)); store = set s k none })
+        ≡ cond (tooShort cap (plus m p)) (refused 56 s) (record { number = 60; out = some (rebuiltOf (plus m p)); store = set s k none })
     unfolding answer
     answer-whole e = rw (gl, gn, nr, nc, lt-leb 16 k k16, nm, e) refl
 
     -- else it brings the message out and frees its place.
-    pub answer-finished : complete (plus m p) ≡ true → tooShort cap (plus m p) ≡ false → answer cap s p k m ≡ record { number = 60; out = some (wholeOf (plus m p)); store = set s k none }
+    pub answer-finished : complete (plus m p) ≡ true → tooShort cap (plus m p) ≡ false → answer cap s p k m ≡ record { number = 60; out = some (rebuiltOf (plus m p)); store = set s k none }
     answer-finished e f = answer-whole e ∙ rw f refl
 
 -- What comes out has at most 65,535 bytes, by 53;
-whole-fits : (m : Message) (p : Piece) → tooMuch m p ≡ false → length (wholeOf (plus m p) .bytes) ≤ 65535
-unfolding wholeOf tooMuch
+whole-fits : (m : Message) (p : Piece) → tooMuch m p ≡ false → length (rebuiltOf (plus m p) .bytes) ≤ 65535
+unfolding rebuiltOf tooMuch
 whole-fits m p e =
     let t : List (List ℕ) = plus m p .table in
     let n : ℕ = suc (plus m p .last) in
-    let a : total t ≡ total (set (m .table) (numberOf p) (bytesOf p)) = ap total (plus-table m p) in
-    let b : total (set (m .table) (numberOf p) (bytesOf p)) ≤ total (m .table) + length (bytesOf p) = total-set-le (m .table) (numberOf p) (bytesOf p) in
+    let a : total t ≡ total (set (m .table) (numberOf p) (pieceBytes p)) = ap total (plus-table m p) in
+    let b : total (set (m .table) (numberOf p) (pieceBytes p)) ≤ total (m .table) + length (pieceBytes p) = total-set-le (m .table) (numberOf p) (pieceBytes p) in
     let c : total (take n t) ≤ total t = total-take n t in
     let d : length (joined (take n t)) ≡ total (take n t) = length-joined (take n t) in
-    let f : total (m .table) + length (bytesOf p) ≤ 65535 = ltb-false 65535 (total (m .table) + length (bytesOf p)) e in
+    let f : total (m .table) + length (pieceBytes p) ≤ 65535 = ltb-false 65535 (total (m .table) + length (pieceBytes p)) e in
     omega arith
 
 -- so a step is the same with every assembly buffer of 65,535 bytes or more.
-pub step-enough : (cap : ℕ) → 65535 ≤ cap → (s : Store) (p : Piece) (now : ℕ) → step cap s p now ≡ step 65535 s p now
+pub step-enough : (cap : ℕ) → 65535 ≤ cap → (s : Store) (p : Piece) (second : ℕ) → step cap s p second ≡ step 65535 s p second
 unfolding step answer
-step-enough cap h s p now = go (messageOr (getD s (placeOf (idOf p) s) none) (idOf p) now) _ refl
+step-enough cap h s p second = go (messageOr (getD s (placeOf (idOf p) s) none) (idOf p) second) _ refl
   where
     go : (m : Message) (b : Bool) → tooMuch m p ≡ b → answer cap s p (placeOf (idOf p) s) m ≡ answer 65535 s p (placeOf (idOf p) s) m
     go m true e = rw e refl
     go m false e =
-        let w : length (wholeOf (plus m p) .bytes) ≤ 65535 = whole-fits m p e in
+        let w : length (rebuiltOf (plus m p) .bytes) ≤ 65535 = whole-fits m p e in
         rw (not-too-short cap (plus m p) (omega arith), not-too-short 65535 (plus m p) w) refl
 
 -- ---- a sweep
 
-module _ (now : ℕ) (s : Store) (k : ℕ) where
-  swept-at : getD (sweep now s) k none ≡ sweptOne now (getD s k none)
+module _ (second : ℕ) (s : Store) (k : ℕ) where
+  swept-at : getD (sweep second s) k none ≡ sweptOne second (getD s k none)
   unfolding sweep sweptOne
-  swept-at = List·getD-map (sweptOne now) s k none
+  swept-at = List·getD-map (sweptOne second) s k none
 
-  pub sweep-free : getD s k none ≡ none → getD (sweep now s) k none ≡ none
+  pub sweep-free : getD s k none ≡ none → getD (sweep second s) k none ≡ none
   unfolding sweptOne
-  sweep-free e = swept-at ∙ ap (sweptOne now) e
+  sweep-free e = swept-at ∙ ap (sweptOne second) e
 
   -- A message stays if the sweep is less than 30 seconds after it was opened, and is dropped otherwise.
   pub sweep-drops : (m : Message) → getD s k none ≡ some m
-      → (now < m .opened + 30 → getD (sweep now s) k none ≡ some m) × (m .opened + 30 ≤ now → getD (sweep now s) k none ≡ none)
+      → (second < m .opened + 30 → getD (sweep second s) k none ≡ some m) × (m .opened + 30 ≤ second → getD (sweep second s) k none ≡ none)
   unfolding sweptOne
   sweep-drops m e = (
-    λ h. swept-at ∙ ap (sweptOne now) e ∙ rw (lt-leb (m .opened + 30) now h) refl,
-    λ h. swept-at ∙ ap (sweptOne now) e ∙ rw (le-leb (m .opened + 30) now h) refl,
+    λ h. swept-at ∙ ap (sweptOne second) e ∙ rw (lt-leb (m .opened + 30) second h) refl,
+    λ h. swept-at ∙ ap (sweptOne second) e ∙ rw (le-leb (m .opened + 30) second h) refl,
   )
 
 -- So a sweep for which no message is old changes nothing.
-pub sweep-same : (now : ℕ) (s : Store) → ((k : ℕ) (m : Message) → getD s k none ≡ some m → now < m .opened + 30) → sweep now s ≡ s
-sweep-same now s f = ext-getD none (sweep now s) s (unfold sweep in length-map s (sweptOne now)) (λ k h. at k (getD s k none) refl)
+pub sweep-same : (second : ℕ) (s : Store) → ((k : ℕ) (m : Message) → getD s k none ≡ some m → second < m .opened + 30) → sweep second s ≡ s
+sweep-same second s f = ext-getD none (sweep second s) s (unfold sweep in length-map s (sweptOne second)) (λ k h. at k (getD s k none) refl)
   where
-    at : (k : ℕ) (o : Option Message) → getD s k none ≡ o → getD (sweep now s) k none ≡ getD s k none
-    at k none e = sweep-free now s k e ∙ sym e
-    at k (some m) e = sweep-drops now s k m e .0 (f k m e) ∙ sym e
+    at : (k : ℕ) (o : Option Message) → getD s k none ≡ o → getD (sweep second s) k none ≡ getD s k none
+    at k none e = sweep-free second s k e ∙ sym e
+    at k (some m) e = sweep-drops second s k m e .0 (f k m e) ∙ sym e

@@ -18,7 +18,7 @@ use Rattle.reassembly.specs.Record.{headOf, headAt, withHead}
 use Rattle.reassembly.specs.Slots.{isFree}
 use Rattle.reassembly.specs.Judge.{noHead, isOld}
 use Rattle.reassembly.specs.Calls.{sweptAt, sweptTo, swept, renewed}
-use Rattle.reassembly.specs.Stands.{series, messageWith, slotAt, stands, Made, Swept, New}
+use Rattle.reassembly.specs.Stands.{series, messageWith, slotAt, stands, Made, SweepAgrees, NewAgrees}
 use Rattle.reassembly.proofs.Series.{series-same}
 use Rattle.reassembly.proofs.Written.{length-head}
 use Rattle.reassembly.proofs.Others.{Others, others-head, slot-same, made-with, freed-slot, freed-free}
@@ -190,14 +190,14 @@ zeros-made n room lr lm =
     (blank-made (replicate n 0) room n (let w : length {A = ℕ} (replicate n 0) ≡ n = length-replicate {A = ℕ} n 0 in omega arith) lr lm)
 
 -- The promises of the calls, from the equations that they state.
-pub sweep-promise : (second : ℕ) (rec rec′ : List ℕ) → rec′ ≡ swept second rec → Swept second rec rec′
+pub sweep-promise : (second : ℕ) (rec rec′ : List ℕ) → rec′ ≡ swept second rec → SweepAgrees second rec rec′
 sweep-promise second rec rec′ e =
     record {
       store = λ room long. ap (λ (z : List ℕ). stands z room) e ∙ sweep-stands second rec room long;
       made = λ room m. subst (λ (z : List ℕ). Made z room) (sym e) (sweep-made second rec room m);
     }
 
-pub new-promise : (rec rec′ : List ℕ) → rec′ ≡ renewed rec → New rec rec′
+pub new-promise : (rec rec′ : List ℕ) → rec′ ≡ renewed rec → NewAgrees rec rec′
 new-promise rec rec′ e =
     record {
       store = λ room lr. ap (λ (z : List ℕ). stands z room) e ∙ new-stands rec room lr;

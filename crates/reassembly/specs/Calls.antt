@@ -11,7 +11,7 @@ use Rattle.reassembly.specs.declared.Reply.{Reply}
 use Rattle.reassembly.specs.Record.{headAt, withHead, entryAt, withEntry, cleared, outside, pieceAt}
 use Rattle.reassembly.specs.Slots.{firstFrom, isOpenAs, isFree}
 use Rattle.reassembly.specs.Message.{messageOf, joinsOutside}
-use Rattle.reassembly.specs.Judge.{again, misfits, grownBy, isWhole, newHead, noHead, isOld}
+use Rattle.reassembly.specs.Judge.{again, misfits, grownBy, isComplete, newHead, noHead, isOld}
 
 -- What a call leaves: its reply, and the record, the room and the assembly buffer.
 pub record After : Type 0 where
@@ -52,7 +52,7 @@ unfoldable pub putIn : List ℕ → List ℕ → List ℕ → ℕ → Head → L
 putIn rec room out i h l v =
     cond (ltb 65535 (h .total + length v))
     (after (bare 53) rec room out)
-    (cond (isWhole (grownBy h l (length v)))
+    (cond (isComplete (grownBy h l (length v)))
     (finished rec room out i l (grownBy h l (length v)) v)
     (after (bare 0) (keptRec rec i (l .number) (h .total) (length v) (grownBy h l (length v))) (keptRoom room i (h .total) v) out))
 
@@ -80,15 +80,15 @@ openedNow rec room out l second v =
     (openedIn rec room out (firstFrom (isFree rec) 0 16) l second v)
 
 -- a piece of any message
-unfoldable pub taken : List ℕ → List ℕ → List ℕ → Label → ℕ → List ℕ → After
-taken rec room out l second v =
+unfoldable pub takenPiece : List ℕ → List ℕ → List ℕ → Label → ℕ → List ℕ → After
+takenPiece rec room out l second v =
     cond (ltb (firstFrom (isOpenAs rec (l .id)) 0 16) 16)
     (added rec room out (firstFrom (isOpenAs rec (l .id)) 0 16) l v)
     (openedNow rec room out l second v)
 
 -- 59: the lent record or room is short
-unfoldable pub isShort : List ℕ → List ℕ → Bool
-isShort rec room = ltb (length rec) 8576 || ltb (length room) 1048560
+unfoldable pub lentShort : List ℕ → List ℕ → Bool
+lentShort rec room = ltb (length rec) 8576 || ltb (length room) 1048560
 
 -- 50: the piece's length is 0 or above 1,500
 unfoldable pub badSize : ℕ → Bool
@@ -97,9 +97,9 @@ badSize n = eqb n 0 || ltb 1500 n
 -- 59 and 50, then the piece is taken
 unfoldable pub firstCall : List ℕ → List ℕ → List ℕ → Label → ℕ → List ℕ → After
 firstCall rec room out l second v =
-    cond (isShort rec room) (after (bare 59) rec room out)
+    cond (lentShort rec room) (after (bare 59) rec room out)
     (cond (badSize (length v)) (after (bare 50) rec room out)
-    (taken rec room out l second v))
+    (takenPiece rec room out l second v))
 
 -- 51: a follow-on's number is 0 or above 127
 unfoldable pub offNumber : ℕ → Bool
@@ -108,10 +108,10 @@ offNumber k = eqb k 0 || ltb 127 k
 -- 59, 50 and 51, then the piece is taken
 unfoldable pub followOnCall : List ℕ → List ℕ → List ℕ → Label → ℕ → List ℕ → After
 followOnCall rec room out l second v =
-    cond (isShort rec room) (after (bare 59) rec room out)
+    cond (lentShort rec room) (after (bare 59) rec room out)
     (cond (badSize (length v)) (after (bare 50) rec room out)
     (cond (offNumber (l .number)) (after (bare 51) rec room out)
-    (taken rec room out l second v)))
+    (takenPiece rec room out l second v)))
 
 -- the record with slot i free where its message is old
 unfoldable pub sweptAt : ℕ → List ℕ → ℕ → List ℕ

@@ -42,8 +42,8 @@ grownBy h l n =
     }
 
 -- a last number is known, and as many numbers are held as there are up to it
-unfoldable pub isWhole : Head → Bool
-isWhole h = ltb 0 (h .last) && ltb (h .last) 128 && eqb (h .count) (h .last + 1)
+unfoldable pub isComplete : Head → Bool
+isComplete h = ltb 0 (h .last) && ltb (h .last) 128 && eqb (h .count) (h .last + 1)
 
 -- the head of a message that is opened at a second, with nothing held
 unfoldable pub newHead : Label → ℕ → Head

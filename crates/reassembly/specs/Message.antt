@@ -10,12 +10,12 @@ unfoldable pub pieceOr : List ℕ → List ℕ → ℕ → ℕ → List ℕ → 
 pieceOr rec room i m v k = cond (eqb k m) v (pieceAt rec room i k)
 
 -- the numbers below n, one after the other
-abbrev pub upTo : (ℕ → List ℕ) → ℕ → List ℕ
-upTo f zero = []
-upTo f (suc n) = upTo f n ++ f n
+abbrev pub joinedBelow : (ℕ → List ℕ) → ℕ → List ℕ
+joinedBelow f zero = []
+joinedBelow f (suc n) = joinedBelow f n ++ f n
 
 unfoldable pub messageOf : List ℕ → List ℕ → ℕ → ℕ → List ℕ → ℕ → List ℕ
-messageOf rec room i m v n = upTo (pieceOr rec room i m v) n
+messageOf rec room i m v n = joinedBelow (pieceOr rec room i m v) n
 
 -- the entry of number k of slot i names bytes outside, where number m is in the call's hand and none of the record's
 unfoldable pub outsideOr : List ℕ → ℕ → ℕ → ℕ → Bool

@@ -9,7 +9,7 @@ use Rattle.wire.specs.Parts.{splice}
 use Rattle.reassembly.specs.declared.Head.{Head}
 use Rattle.reassembly.specs.declared.Label.{Label}
 use Rattle.reassembly.specs.declared.Reply.{Reply}
-use Rattle.reassembly.specs.Store.{Piece, first, follow, Message, Store, Whole, Answer, isHeld, total, sweep, empty}
+use Rattle.reassembly.specs.Store.{Piece, first, follow, Message, Store, Rebuilt, Answer, isHeld, total, sweep, empty}
 use Rattle.reassembly.specs.Record.{headAt, entryAt, pieceAt}
 use Rattle.reassembly.specs.Slots.{isFree}
 use Rattle.reassembly.specs.Calls.{After, bare}
@@ -25,7 +25,7 @@ tableAt rec room i = series (pieceAt rec room i) 0 128
 
 -- the message of slot i, whose head is h
 unfoldable pub messageWith : Head → List ℕ → List ℕ → ℕ → Message
-messageWith h rec room i = record { id = h .id; opened = h .opened; typ = h .kind; expires = h .expires; last = h .last; table = tableAt rec room i }
+messageWith h rec room i = record { id = h .id; opened = h .opened; kind = h .kind; expires = h .expires; last = h .last; table = tableAt rec room i }
 
 -- a slot that holds no piece is free
 unfoldable pub slotAt : List ℕ → List ℕ → ℕ → Option Message
@@ -55,7 +55,7 @@ pub record Fine (h : Head) (rec room : List ℕ) (i : ℕ) : Type 0 where
   pub last-small : h .last < 128
   pub lastmost : 0 < h .last → (k : ℕ) → isHeld (getD (tableAt rec room i) k []) ≡ true → k ≤ h .last
 
--- A record and a room as the calls leave them. (All zero is one: `New`.)
+-- A record and a room as the calls leave them. (All zero is one: `NewAgrees`.)
 pub record Made (rec room : List ℕ) : Type 0 where
   pub record-long : 8576 ≤ length rec
   pub room-long : 1048560 ≤ length room
@@ -63,16 +63,16 @@ pub record Made (rec room : List ℕ) : Type 0 where
 
 -- what a piece of the store is to a call: a label beside the bytes
 unfoldable pub labelOf : Piece → Label
-labelOf (first id typ expires bytes) = record { id = id; number = 0; last = false; kind = typ; expires = expires }
+labelOf (first id kind expires bytes) = record { id = id; number = 0; last = false; kind = kind; expires = expires }
 labelOf (follow id number final bytes) = record { id = id; number = number; last = final; kind = 0; expires = 0 }
 
 -- the store's answer as a call's reply
-unfoldable pub replyFor : ℕ → Option Whole → Reply
+unfoldable pub replyFor : ℕ → Option Rebuilt → Reply
 replyFor n none = bare n
-replyFor n (some w) = record { number = n; kind = w .typ; expires = w .expires; length = length (w .bytes) }
+replyFor n (some w) = record { number = n; kind = w .kind; expires = w .expires; length = length (w .bytes) }
 
 -- a message that came out stands at the start of the assembly buffer; the rest stays
-unfoldable pub laidOut : List ℕ → Option Whole → List ℕ
+unfoldable pub laidOut : List ℕ → Option Rebuilt → List ℕ
 laidOut out none = out
 laidOut out (some w) = splice out 0 (w .bytes)
 
@@ -84,11 +84,11 @@ pub record Agrees (out : List ℕ) (x : After) (a : Answer) : Type 0 where
   pub made : Made (x .rec) (x .room)
 
 -- A sweep did to what the record stands for, with any room, what the store's sweep does, and left what a call may be lent again.
-pub record Swept (second : ℕ) (rec rec′ : List ℕ) : Type 0 where
+pub record SweepAgrees (second : ℕ) (rec rec′ : List ℕ) : Type 0 where
   pub store : (room : List ℕ) → 8576 ≤ length rec → stands rec′ room ≡ sweep second (stands rec room)
   pub made : (room : List ℕ) → Made rec room → Made rec′ room
 
 -- A new record stands for the empty store, with any room, and with one of the lent length it is what a call may be lent.
-pub record New (rec rec′ : List ℕ) : Type 0 where
+pub record NewAgrees (rec rec′ : List ℕ) : Type 0 where
   pub store : (room : List ℕ) → 8576 ≤ length rec → stands rec′ room ≡ empty
   pub made : (room : List ℕ) → 8576 ≤ length rec → 1048560 ≤ length room → Made rec′ room

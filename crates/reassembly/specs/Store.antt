@@ -9,31 +9,31 @@ use Rattle.wire.specs.Parts.{same}
 
 -- A piece: a first fragment (number 0, with the message's head) or a follow-on fragment (a number, and whether it is the last).
 pub data Piece : Type 0 where
-  first : (id typ expires : ℕ) (bytes : List ℕ) → Piece
+  first : (id kind expires : ℕ) (bytes : List ℕ) → Piece
   follow : (id number : ℕ) (final : Bool) (bytes : List ℕ) → Piece
 
 unfoldable pub idOf : Piece → ℕ
-idOf (first id typ expires bytes) = id
+idOf (first id kind expires bytes) = id
 idOf (follow id number final bytes) = id
 
 unfoldable pub numberOf : Piece → ℕ
-numberOf (first id typ expires bytes) = 0
+numberOf (first id kind expires bytes) = 0
 numberOf (follow id number final bytes) = number
 
 unfoldable pub finalOf : Piece → Bool
-finalOf (first id typ expires bytes) = false
+finalOf (first id kind expires bytes) = false
 finalOf (follow id number final bytes) = final
 
-unfoldable pub bytesOf : Piece → List ℕ
-bytesOf (first id typ expires bytes) = bytes
-bytesOf (follow id number final bytes) = bytes
+unfoldable pub pieceBytes : Piece → List ℕ
+pieceBytes (first id kind expires bytes) = bytes
+pieceBytes (follow id number final bytes) = bytes
 
 -- A message being rebuilt. `table` has 128 places, the bytes held of each number. A piece has at least one byte, so [] says "not held".
--- `typ` and `expires` are the head, once number 0 is held. `last` is the last number, once it is known, and 0 before: a last piece is a follow-on.
+-- `kind` and `expires` are the head, once number 0 is held. `last` is the last number, once it is known, and 0 before: a last piece is a follow-on.
 pub record Message : Type 0 where
   pub id : ℕ
   pub opened : ℕ
-  pub typ : ℕ
+  pub kind : ℕ
   pub expires : ℕ
   pub last : ℕ
   pub table : List (List ℕ)
@@ -46,15 +46,15 @@ abbrev pub empty : Store
 empty = replicate 16 none
 
 -- What comes out when a message is finished: its head and its bytes.
-pub record Whole : Type 0 where
-  pub typ : ℕ
+pub record Rebuilt : Type 0 where
+  pub kind : ℕ
   pub expires : ℕ
   pub bytes : List ℕ
 
 -- A call's answer: the number, the message that came out, the next store.
 pub record Answer : Type 0 where
   pub number : ℕ
-  pub out : Option Whole
+  pub out : Option Rebuilt
   pub store : Store
 
 -- Whether a number is held, all of some are, some of them is; their bytes counted, and one after the other.
@@ -95,29 +95,29 @@ placeOf id s = cond (ltb (findId id s) (length s)) (findId id s) (findFree s)
 
 -- What stands there: the open message, or a new one with nothing held.
 unfoldable pub messageOr : Option Message → ℕ → ℕ → Message
-messageOr none id now = record { id = id; opened = now; typ = 0; expires = 0; last = 0; table = replicate 128 [] }
-messageOr (some m) id now = m
+messageOr none id second = record { id = id; opened = second; kind = 0; expires = 0; last = 0; table = replicate 128 [] }
+messageOr (some m) id second = m
 
 -- The message with one piece more
 unfoldable pub plus : Message → Piece → Message
-plus m (first id typ expires bytes) =
-    record { id = m .id; opened = m .opened; typ = typ; expires = expires; last = m .last; table = set (m .table) 0 bytes }
+plus m (first id kind expires bytes) =
+    record { id = m .id; opened = m .opened; kind = kind; expires = expires; last = m .last; table = set (m .table) 0 bytes }
 plus m (follow id number final bytes) =
-    record { id = m .id; opened = m .opened; typ = m .typ; expires = m .expires; last = cond final number (m .last); table = set (m .table) number bytes }
+    record { id = m .id; opened = m .opened; kind = m .kind; expires = m .expires; last = cond final number (m .last); table = set (m .table) number bytes }
 
 -- 50: the length is 0 or above 1,500
 unfoldable pub badLength : Piece → Bool
-badLength p = eqb (length (bytesOf p)) 0 || ltb 1500 (length (bytesOf p))
+badLength p = eqb (length (pieceBytes p)) 0 || ltb 1500 (length (pieceBytes p))
 
 -- 51: a follow-on's number is 0 or above 127
 unfoldable pub badNumber : Piece → Bool
-badNumber (first id typ expires bytes) = false
+badNumber (first id kind expires bytes) = false
 badNumber (follow id number final bytes) = eqb number 0 || ltb 127 number
 
 -- 54: an exact repeat of a held piece: the same number, bytes, and head or flag
 unfoldable pub repeats : Message → Piece → Bool
-repeats m (first id typ expires bytes) =
-    isHeld (getD (m .table) 0 []) && same (getD (m .table) 0 []) bytes && eqb (m .typ) typ && eqb (m .expires) expires
+repeats m (first id kind expires bytes) =
+    isHeld (getD (m .table) 0 []) && same (getD (m .table) 0 []) bytes && eqb (m .kind) kind && eqb (m .expires) expires
 repeats m (follow id number final bytes) =
     isHeld (getD (m .table) number []) && same (getD (m .table) number []) bytes && Bool·beq (eqb (m .last) number) final
 
@@ -130,18 +130,18 @@ clashes m p =
 
 -- 53: the total would pass 65,535
 unfoldable pub tooMuch : Message → Piece → Bool
-tooMuch m p = ltb 65535 (total (m .table) + length (bytesOf p))
+tooMuch m p = ltb 65535 (total (m .table) + length (pieceBytes p))
 
 -- A last number n is known and all numbers from 0 to n are held.
 unfoldable pub complete : Message → Bool
 complete m = ltb 0 (m .last) && allHeld (take (suc (m .last)) (m .table))
 
-unfoldable pub wholeOf : Message → Whole
-wholeOf m = record { typ = m .typ; expires = m .expires; bytes = joined (take (suc (m .last)) (m .table)) }
+unfoldable pub rebuiltOf : Message → Rebuilt
+rebuiltOf m = record { kind = m .kind; expires = m .expires; bytes = joined (take (suc (m .last)) (m .table)) }
 
 -- 56: the assembly buffer is too short for what would come out
 unfoldable pub tooShort : ℕ → Message → Bool
-tooShort cap m = ltb cap (length (wholeOf m .bytes))
+tooShort cap m = ltb cap (length (rebuiltOf m .bytes))
 
 unfoldable pub refused : ℕ → Store → Answer
 refused n s = record { number = n; out = none; store = s }
@@ -157,24 +157,24 @@ answer cap s p k m =
     (cond (tooMuch m p) (refused 53 s)
     (cond (complete (plus m p))
     (cond (tooShort cap (plus m p)) (refused 56 s)
-    (record { number = 60; out = some (wholeOf (plus m p)); store = set s k none }))
+    (record { number = 60; out = some (rebuiltOf (plus m p)); store = set s k none }))
     (record { number = 0; out = none; store = set s k (some (plus m p)) })))))))
 
--- A piece comes at the second `now`.
+-- A piece comes at the second `second`.
 unfoldable pub step : ℕ → Store → Piece → ℕ → Answer
-step cap s p now =
+step cap s p second =
     let k : ℕ = placeOf (idOf p) s in
-    answer cap s p k (messageOr (getD s k none) (idOf p) now)
+    answer cap s p k (messageOr (getD s k none) (idOf p) second)
 
--- A sweep drops exactly the messages with `now` at least 30 above the second of the piece that opened them.
+-- A sweep drops exactly the messages with `second` at least 30 above the second of the piece that opened them.
 unfoldable pub sweptOne : ℕ → Option Message → Option Message
-sweptOne now none = none
-sweptOne now (some m) = cond (leb (m .opened + 30) now) none (some m)
+sweptOne second none = none
+sweptOne second (some m) = cond (leb (m .opened + 30) second) none (some m)
 
 unfoldable pub sweep : ℕ → Store → Store
-sweep now s = map (sweptOne now) s
+sweep second s = map (sweptOne second) s
 
 -- The numbers that a run of pieces is answered by, all at the second 0, with 65,535 bytes to assemble in.
-abbrev pub numbers : Store → List Piece → List ℕ
-numbers s [] = []
-numbers s (p ∷ ps) = step 65535 s p 0 .number ∷ numbers (step 65535 s p 0 .store) ps
+abbrev pub stepNumbers : Store → List Piece → List ℕ
+stepNumbers s [] = []
+stepNumbers s (p ∷ ps) = step 65535 s p 0 .number ∷ stepNumbers (step 65535 s p 0 .store) ps

@@ -134,7 +134,7 @@ fn sum_of(out: &[u8], n: usize) -> u64
 fn call(rec: &mut [u8], room: &mut [u8], out: &mut [u8], l: Line, piece: &[u8]) -> Reply {
     let a = (l.a % 256) as u8;
     if l.call == 1 {
-        return store::first_fragment(
+        return reassembly_store::first_fragment(
             rec,
             room,
             out,
@@ -146,18 +146,18 @@ fn call(rec: &mut [u8], room: &mut [u8], out: &mut [u8], l: Line, piece: &[u8]) 
         );
     }
     if l.call == 2 {
-        return store::follow_on_fragment(rec, room, out, l.id, a, l.b == 1, l.second, piece);
+        return reassembly_store::follow_on_fragment(rec, room, out, l.id, a, l.b == 1, l.second, piece);
     }
     if l.call == 3 {
         return Reply {
-            number: store::sweep(rec, l.second),
+            number: reassembly_store::sweep(rec, l.second),
             kind: 0,
             expires: 0,
             length: 0,
         };
     }
     Reply {
-        number: store::new(rec),
+        number: reassembly_store::new(rec),
         kind: 0,
         expires: 0,
         length: 0,

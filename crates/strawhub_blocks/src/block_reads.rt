@@ -2,9 +2,9 @@
 ghost use mathlib.Core.Path.{_≡_};
 ghost use Rattle.blocks.specs.Reading.{readAt};
 ghost use Rattle.numbers.specs.BlockNumbers.{readNumbers};
-ghost use Rattle.outcomes.specs.Outcomes.{readOutcome};
+ghost use Rattle.numbers_outcomes.specs.Outcomes.{readOutcome};
 use blocks::Read;
-use outcomes::Outcome;
+use numbers_outcomes::Outcome;
 
 fn read_outcome(read: Read) -> Outcome
     ensures { λ r. ⌜ r ≡ readOutcome read ⌝ }
@@ -26,7 +26,7 @@ fn read_outcome(read: Read) -> Outcome
 pub extern "C" fn strawhub_block_read(payload: &[u8], at: usize, out: &mut [u64; 12]) -> Outcome
     ensures { λ r. ⌜ (r ≡ readOutcome (readAt (now (payload .entry)) at)) × (now (out .exit) ≡ readNumbers (readAt (now (payload .entry)) at) (now (out .entry))) ⌝ }
 {
-    let read = reader::read_block(payload, at);
-    block_numbers::put_block_numbers(read, out);
+    let read = blocks_reader::read_block(payload, at);
+    numbers_blocks::put_block_numbers(read, out);
     read_outcome(read)
 }

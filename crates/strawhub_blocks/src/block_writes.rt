@@ -2,9 +2,9 @@
 ghost use mathlib.Core.Path.{_≡_};
 ghost use lib.ListN.{length};
 ghost use Rattle.numbers.specs.BlockFields.{writingBy, roomBy};
-ghost use Rattle.outcomes.specs.Outcomes.{written};
-use outcomes::Outcome;
-use outcomes::outcome_of;
+ghost use Rattle.numbers_outcomes.specs.Outcomes.{writeOutcome};
+use numbers_outcomes::Outcome;
+use numbers_outcomes::outcome_of;
 
 // Writes a block to the start of a room, its bytes as they are lent: 0 and its length; or 32 where a field does not fit, then the writer's refusals, and then the room is as it was.
 #[no_mangle]
@@ -14,8 +14,8 @@ pub extern "C" fn strawhub_block_write(
     fields: &[u64; 8],
     bytes: &[u8],
 ) -> Outcome
-    ensures { λ r. ⌜ (r ≡ written (writingBy kind (now (fields .entry)) (now (bytes .entry)) (length (now (room .entry))))) × (now (room .exit) ≡ roomBy kind (now (fields .entry)) (now (bytes .entry)) (now (room .entry))) ⌝ }
+    ensures { λ r. ⌜ (r ≡ writeOutcome (writingBy kind (now (fields .entry)) (now (bytes .entry)) (length (now (room .entry))))) × (now (room .exit) ≡ roomBy kind (now (fields .entry)) (now (bytes .entry)) (now (room .entry))) ⌝ }
 {
-    let w = block_fields::write_by(kind, fields, bytes, room);
+    let w = numbers_fields::write_by(kind, fields, bytes, room);
     outcome_of(w)
 }

@@ -1,8 +1,8 @@
 // Header calls.
 ghost use mathlib.Core.Path.{_≡_};
 ghost use lib.ListN.{length};
-ghost use Rattle.header.specs.Reading.{answerOf, leftBy};
-ghost use Rattle.header.specs.Writing.{writeNumber, leftByWrite};
+ghost use Rattle.header.specs.Reading.{headerAnswer, packetAfterRead};
+ghost use Rattle.header.specs.Writing.{writeNumber, packetAfterWrite};
 ghost use Rattle.numbers.specs.Headers.{answerNumber, answerNumbers, fieldsBy};
 use header::Fields;
 
@@ -14,10 +14,10 @@ pub extern "C" fn strawhub_header_read(
     k2: &[u8; 32],
     out: &mut [u64; 11],
 ) -> u32
-    ensures { λ r. ⌜ (r ≡ answerNumber (answerOf (now (k1 .entry)) (now (k2 .entry)) (now (pkt .entry)))) × (now (pkt .exit) ≡ leftBy (now (k1 .entry)) (now (k2 .entry)) (now (pkt .entry))) × (now (out .exit) ≡ answerNumbers (answerOf (now (k1 .entry)) (now (k2 .entry)) (now (pkt .entry))) (now (out .entry))) ⌝ }
+    ensures { λ r. ⌜ (r ≡ answerNumber (headerAnswer (now (k1 .entry)) (now (k2 .entry)) (now (pkt .entry)))) × (now (pkt .exit) ≡ packetAfterRead (now (k1 .entry)) (now (k2 .entry)) (now (pkt .entry))) × (now (out .exit) ≡ answerNumbers (headerAnswer (now (k1 .entry)) (now (k2 .entry)) (now (pkt .entry))) (now (out .entry))) ⌝ }
 {
-    let answer = packets::read(pkt, k1, k2);
-    header_numbers::put_numbers(answer, out)
+    let answer = header_packets::read(pkt, k1, k2);
+    numbers_headers::put_numbers(answer, out)
 }
 
 // Writes and masks a header by numbers; the answer is 0 or the refusal, and refused the packet is as it came. Any flag but 0 asks for an immediate ack.
@@ -37,7 +37,7 @@ pub extern "C" fn strawhub_header_write(
     count: u8,
     immediate: u8,
 ) -> u32
-    ensures { λ r. ⌜ (r ≡ writeNumber (fieldsBy kind destination number version network source token fragment count immediate) (length (now (pkt .entry)))) × (now (pkt .exit) ≡ leftByWrite (now (k1 .entry)) (now (k2 .entry)) (fieldsBy kind destination number version network source token fragment count immediate) (now (pkt .entry))) ⌝ }
+    ensures { λ r. ⌜ (r ≡ writeNumber (fieldsBy kind destination number version network source token fragment count immediate) (length (now (pkt .entry)))) × (now (pkt .exit) ≡ packetAfterWrite (now (k1 .entry)) (now (k2 .entry)) (fieldsBy kind destination number version network source token fragment count immediate) (now (pkt .entry))) ⌝ }
 {
     let f = Fields {
         kind,
@@ -51,5 +51,5 @@ pub extern "C" fn strawhub_header_write(
         count,
         immediate: immediate != 0,
     };
-    packets::write(f, pkt, k1, k2)
+    header_packets::write(f, pkt, k1, k2)
 }

@@ -1,8 +1,8 @@
 // What a block delivers, by numbers.
 ghost use mathlib.Core.Path.{_≡_};
-ghost use Rattle.outcomes.specs.Deliveries.{deliveryOutcome, deliveryNumbers, deliveredAt};
+ghost use Rattle.numbers_outcomes.specs.Deliveries.{deliveryOutcome, deliveryNumbers, deliveredAt};
 use messages::Received;
-use outcomes::Outcome;
+use numbers_outcomes::Outcome;
 
 // What was received put into the lent numbers; refused, they stay.
 fn tell(r: Received, told: &mut [u64; 6]) -> Outcome

@@ -10,7 +10,7 @@ use reassembly::Reply;
 pub extern "C" fn strawhub_store_new(rec: &mut [u8]) -> u8
     ensures { λ r. ⌜ (r ≡ renewal (now (rec .entry))) × (now (rec .exit) ≡ renewed (now (rec .entry))) ⌝ }
 {
-    store::new(rec)
+    reassembly_store::new(rec)
 }
 
 // A first piece arrives: 0 kept, 60 with the message at the start of out and its head and length in the reply, or a refusal, and then nothing changes.
@@ -27,7 +27,7 @@ pub extern "C" fn strawhub_store_first(
 ) -> Reply
     ensures { λ r. ⌜ after r (now (rec .exit)) (now (room .exit)) (now (out .exit)) ≡ firstCall (now (rec .entry)) (now (room .entry)) (now (out .entry)) (record { id = id; number = 0; last = false; kind = kind; expires = expires }) second (now (bytes .entry)) ⌝ }
 {
-    store::first_fragment(rec, room, out, id, kind, expires, second, bytes)
+    reassembly_store::first_fragment(rec, room, out, id, kind, expires, second, bytes)
 }
 
 // A follow-on piece arrives, in the same way. Any last but 0 marks the last piece.
@@ -44,7 +44,7 @@ pub extern "C" fn strawhub_store_follow_on(
 ) -> Reply
     ensures { λ r. ⌜ after r (now (rec .exit)) (now (room .exit)) (now (out .exit)) ≡ followOnCall (now (rec .entry)) (now (room .entry)) (now (out .entry)) (record { id = id; number = number; last = not (eqb last 0); kind = 0; expires = 0 }) second (now (bytes .entry)) ⌝ }
 {
-    store::follow_on_fragment(rec, room, out, id, number, last != 0, second, bytes)
+    reassembly_store::follow_on_fragment(rec, room, out, id, number, last != 0, second, bytes)
 }
 
 // Drops exactly the messages that were opened 30 seconds ago or more. Answers 0.
@@ -52,5 +52,5 @@ pub extern "C" fn strawhub_store_follow_on(
 pub extern "C" fn strawhub_store_sweep(rec: &mut [u8], second: u64) -> u8
     ensures { λ r. ⌜ (r ≡ 0) × (now (rec .exit) ≡ swept second (now (rec .entry))) ⌝ }
 {
-    store::sweep(rec, second)
+    reassembly_store::sweep(rec, second)
 }

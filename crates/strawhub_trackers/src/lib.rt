@@ -4,12 +4,12 @@ ghost use lib.ListN.{length};
 ghost use Rattle.acks.specs.Recorded.{registerThere, recordAfter, duplicateThere, reportThere};
 ghost use Rattle.acks.specs.Expanding.{expandOf, listAfter};
 ghost use Rattle.acks.specs.AckBlocks.{ackWriting, ackRoom};
-ghost use Rattle.outcomes.specs.Outcomes.{written};
-ghost use Rattle.outcomes.specs.Trackers.{newAnswer, newRecord, reportNumbers, reportPairs};
+ghost use Rattle.numbers_outcomes.specs.Outcomes.{writeOutcome};
+ghost use Rattle.numbers_outcomes.specs.Trackers.{newAnswer, newRecord, reportNumbers, reportPairs};
 use acks::AckInfo;
 use acks::Expanded;
-use outcomes::Outcome;
-use outcomes::outcome_of;
+use numbers_outcomes::Outcome;
+use numbers_outcomes::outcome_of;
 
 // A tracker that has seen nothing. 59 where the record is short, and then it stays.
 #[no_mangle]
@@ -29,7 +29,7 @@ pub extern "C" fn strawhub_tracker_new(tracker: &mut [u8]) -> u32
 pub extern "C" fn strawhub_tracker_register(tracker: &mut [u8], n: u32) -> u32
     ensures { λ r. ⌜ (r ≡ registerThere (now (tracker .entry)) n) × (now (tracker .exit) ≡ recordAfter (now (tracker .entry)) n) ⌝ }
 {
-    tracker::recorded::register_in(tracker, n)
+    acks_tracker::recorded::register_in(tracker, n)
 }
 
 // Whether a number is in the window and received: 1 for yes, 0 for no, 59 where the record is short.
@@ -37,7 +37,7 @@ pub extern "C" fn strawhub_tracker_register(tracker: &mut [u8], n: u32) -> u32
 pub extern "C" fn strawhub_tracker_duplicate(tracker: &[u8], n: u32) -> u32
     ensures { λ r. ⌜ r ≡ duplicateThere (now (tracker .entry)) n ⌝ }
 {
-    tracker::recorded::is_duplicate_in(tracker, n)
+    acks_tracker::recorded::is_duplicate_in(tracker, n)
 }
 
 fn put_report(r: AckInfo, out: &mut [u64; 3], pairs: &mut [u8; 254]) -> u32
@@ -62,17 +62,17 @@ pub extern "C" fn strawhub_tracker_report(
 ) -> u32
     ensures { λ n. ⌜ (n ≡ reportThere (now (tracker .entry)) .number) × (now (out .exit) ≡ reportNumbers (reportThere (now (tracker .entry))) (now (out .entry))) × (now (pairs .exit) ≡ reportPairs (reportThere (now (tracker .entry))) (now (pairs .entry))) ⌝ }
 {
-    let r = reports::report_in(tracker);
+    let r = acks_reports::report_in(tracker);
     put_report(r, out, pairs)
 }
 
 // The report as an Ack block at the start of a room: its length, or 41, 59, 30, and then the room stays.
 #[no_mangle]
 pub extern "C" fn strawhub_tracker_ack_block(tracker: &[u8], room: &mut [u8]) -> Outcome
-    ensures { λ r. ⌜ (r ≡ written (ackWriting (reportThere (now (tracker .entry))) (length (now (room .entry))))) × (now (room .exit) ≡ ackRoom (reportThere (now (tracker .entry))) (now (room .entry))) ⌝ }
+    ensures { λ r. ⌜ (r ≡ writeOutcome (ackWriting (reportThere (now (tracker .entry))) (length (now (room .entry))))) × (now (room .exit) ≡ ackRoom (reportThere (now (tracker .entry))) (now (room .entry))) ⌝ }
 {
-    let r = reports::report_in(tracker);
-    let w = reports::ack_block::write_ack(r, room);
+    let r = acks_reports::report_in(tracker);
+    let w = acks_reports::ack_block::write_ack(r, room);
     outcome_of(w)
 }
 
@@ -86,5 +86,5 @@ pub extern "C" fn strawhub_ack_expand(
 ) -> Expanded
     ensures { λ r. ⌜ (r ≡ expandOf through count (now (pairs .entry)) (length (now (list .entry)))) × (now (list .exit) ≡ listAfter through count (now (pairs .entry)) (now (list .entry))) ⌝ }
 {
-    expand::expand(through, count, pairs, list)
+    acks_expand::expand(through, count, pairs, list)
 }

@@ -4,7 +4,7 @@ use Prim.Native.Nat.{_+_, _≤_, _-_}
 use native.Mathlib.Omega.{arith}
 use lib.ListN.{length, getD, drop}
 use borrow.Author.Needs.{needs}
-use Rattle.lines.specs.Fields.{ends, lead}
+use Rattle.lines.specs.Fields.{isEnd, lead}
 use Rattle.lines.proofs.Scans.{lead-ends, lead-goes, lead-none}
 use Rattle.lines.proofs.end_of.Statement.{statement}
 use Rattle.lines.proofs.end_of.Tie as tie
@@ -29,7 +29,7 @@ returns c =
     let at-loop = c .before .before .before .before in
     let a = at-loop .before .before .args in
     let i = at-loop .loop .i in
-    let t : ends (a .own) (getD (a .text .now) i 0) ≡ true = sym (c .before .ends .ensures) ∙ c .if1 .taken in
+    let t : isEnd (a .own) (getD (a .text .now) i 0) ≡ true = sym (c .before .ends .ensures) ∙ c .if1 .taken in
     omega (arith, lead-ends (a .own) (a .text .now) i (omega arith) t, at-loop .loop .inv)
 
 add-i : tie.Need-add-i Inv-loop μ-loop
@@ -43,7 +43,7 @@ loop-again c =
     let at-loop = c .before .before .before .before in
     let a = at-loop .before .before .args in
     let i = at-loop .loop .i in
-    let t : ends (a .own) (getD (a .text .now) i 0) ≡ false = sym (c .before .ends .ensures) ∙ c .if1 .left in
+    let t : isEnd (a .own) (getD (a .text .now) i 0) ≡ false = sym (c .before .ends .ensures) ∙ c .if1 .left in
     (search needs, at-loop .loop .inv .1 ∙ lead-goes (a .own) (a .text .now) i (omega arith) t)
 
 returns-2 : tie.Need-returns-2 Inv-loop μ-loop

@@ -3,13 +3,13 @@ use Prim.Native.Nat.{ℕ, _+_, _*_, _^_, _≤_, _<_, _-_}
 use native.Mathlib.Omega.{arith}
 use lib.ListN.{length, getD, drop}
 use borrow.Author.Needs.{needs}
-use Rattle.lines.specs.Digits.{digitOf, numberFrom, numberOf}
+use Rattle.lines.specs.Digits.{digitOf, numberFrom, decimalOf}
 use Rattle.lines.proofs.Decimal.{number-refused, number-large, number-goes, number-end, number-none, number-some}
 use Rattle.lines.proofs.number.Statement.{statement}
 use Rattle.lines.proofs.number.Tie as tie
 
 abbrev Inv-loop : tie.InvT-loop
-Inv-loop field x₀ i₀ x i = (i ≤ length field) × (x < 2 ^ 64) × (numberOf field ≡ numberFrom x (drop i field))
+Inv-loop field x₀ i₀ x i = (i ≤ length field) × (x < 2 ^ 64) × (decimalOf field ≡ numberFrom x (drop i field))
 
 abbrev μ-loop : tie.MeasureT-loop
 μ-loop field x₀ i₀ x i = length field - i

@@ -1,6 +1,6 @@
 use mathlib.Core.Path.{refl, sym}
 use borrow.Author.Tests.{eq-eqb, ne-eqb}
-use Rattle.outcomes.specs.Trackers.{reportNumbers, reportPairs}
+use Rattle.numbers_outcomes.specs.Trackers.{reportNumbers, reportPairs}
 use borrow.Author.Needs.{needs}
 use Rattle.strawhub_trackers.proofs.put_report.Statement.{statement}
 use Rattle.strawhub_trackers.proofs.put_report.Tie as tie

@@ -2,7 +2,7 @@ use mathlib.Core.Path.{ap, _∙_}
 use Rattle.acks.specs.declared.AckInfo.{AckInfo}
 use Rattle.acks.specs.AckBlocks.{ackWriting, ackRoom}
 use lib.ListN.{length}
-use Rattle.outcomes.specs.Outcomes.{written}
+use Rattle.numbers_outcomes.specs.Outcomes.{writeOutcome}
 use borrow.Author.Needs.{needs}
 use Rattle.strawhub_trackers.proofs.strawhub_tracker_ack_block.Statement.{statement}
 use Rattle.strawhub_trackers.proofs.strawhub_tracker_ack_block.Tie as tie
@@ -21,7 +21,7 @@ same-length c = search needs
 
 returns : tie.Need-returns
 returns c = (
-  c .outcome-of .ensures ∙ ap written (c .before .before .before .write-ack .ensures .0 ∙ ap (λ (a : AckInfo). ackWriting a (length (c .before .before .before .before .before .before .before .before .args .room .now))) (c .before .before .before .before .before .report-in .ensures)),
+  c .outcome-of .ensures ∙ ap writeOutcome (c .before .before .before .write-ack .ensures .0 ∙ ap (λ (a : AckInfo). ackWriting a (length (c .before .before .before .before .before .before .before .before .args .room .now))) (c .before .before .before .before .before .report-in .ensures)),
   c .before .before .before .write-ack .ensures .1 ∙ ap (λ (a : AckInfo). ackRoom a (c .before .before .before .before .before .before .before .before .args .room .now)) (c .before .before .before .before .before .report-in .ensures),
 )
 

@@ -1,6 +1,6 @@
 use mathlib.Core.Path.{refl}
 use Rattle.acks.proofs.Recording.{is-short, is-long}
-use Rattle.outcomes.specs.Trackers.{newAnswer, newRecord}
+use Rattle.numbers_outcomes.specs.Trackers.{newAnswer, newRecord}
 use borrow.Author.Needs.{needs}
 use Rattle.strawhub_trackers.proofs.strawhub_tracker_new.Statement.{statement}
 use Rattle.strawhub_trackers.proofs.strawhub_tracker_new.Tie as tie

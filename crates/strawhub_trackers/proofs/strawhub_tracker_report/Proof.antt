@@ -1,6 +1,6 @@
 use mathlib.Core.Path.{ap, _∙_}
 use Rattle.acks.specs.declared.AckInfo.{AckInfo}
-use Rattle.outcomes.specs.Trackers.{reportNumbers, reportPairs}
+use Rattle.numbers_outcomes.specs.Trackers.{reportNumbers, reportPairs}
 use borrow.Author.Needs.{needs}
 use Rattle.strawhub_trackers.proofs.strawhub_tracker_report.Statement.{statement}
 use Rattle.strawhub_trackers.proofs.strawhub_tracker_report.Tie as tie

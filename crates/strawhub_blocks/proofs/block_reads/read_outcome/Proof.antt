@@ -1,5 +1,5 @@
 use mathlib.Core.Path.{sym, ap}
-use Rattle.outcomes.specs.Outcomes.{readOutcome}
+use Rattle.numbers_outcomes.specs.Outcomes.{readOutcome}
 use borrow.Author.Needs.{needs}
 use Rattle.strawhub_blocks.proofs.block_reads.read_outcome.Statement.{statement}
 use Rattle.strawhub_blocks.proofs.block_reads.read_outcome.Tie as tie

@@ -1,7 +1,7 @@
 use mathlib.Core.Path.{ap, _∙_}
 use Rattle.blocks.specs.declared.Read.{Read}
 use Rattle.numbers.specs.BlockNumbers.{readNumbers}
-use Rattle.outcomes.specs.Outcomes.{readOutcome}
+use Rattle.numbers_outcomes.specs.Outcomes.{readOutcome}
 use borrow.Author.Needs.{needs}
 use Rattle.strawhub_blocks.proofs.block_reads.strawhub_block_read.Statement.{statement}
 use Rattle.strawhub_blocks.proofs.block_reads.strawhub_block_read.Tie as tie

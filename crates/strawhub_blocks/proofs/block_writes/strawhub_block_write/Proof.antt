@@ -1,5 +1,5 @@
 use mathlib.Core.Path.{ap, _∙_}
-use Rattle.outcomes.specs.Outcomes.{written}
+use Rattle.numbers_outcomes.specs.Outcomes.{writeOutcome}
 use borrow.Author.Needs.{needs}
 use Rattle.strawhub_blocks.proofs.block_writes.strawhub_block_write.Statement.{statement}
 use Rattle.strawhub_blocks.proofs.block_writes.strawhub_block_write.Tie as tie
@@ -14,7 +14,7 @@ same-length : tie.Need-same-length
 same-length c = search needs
 
 returns : tie.Need-returns
-returns c = (c .outcome-of .ensures ∙ ap written (c .before .before .before .write-by .ensures .0), c .before .before .before .write-by .ensures .1)
+returns c = (c .outcome-of .ensures ∙ ap writeOutcome (c .before .before .before .write-by .ensures .0), c .before .before .before .write-by .ensures .1)
 
 pub strawhub-block-write-spec : {M : Type 1} → statement M
 strawhub-block-write-spec =

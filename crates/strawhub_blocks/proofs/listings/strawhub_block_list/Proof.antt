@@ -36,20 +36,20 @@ use denote.Triple.Clauses.{ensured, lasts}
 use denote.Triple.Table.{entered, cited}
 use denote.Triple.Walked.{says, Stays, stay-dropped, gave-slice, walkOf, goes-dropped, goes-gave-slice, Walks, ends-at, walked, walk-meets}
 use denote.Exit.{yes}
-use Rattle.listing.specs.declared.Entry.{Entry}
-use Rattle.listing.specs.declared.Answer.{Answer}
-use Rattle.listing.specs.Listing.{listing, answerOf, filled}
-use Rattle.listing.proofs.Entry as T
-use Rattle.listing.proofs.Answer as L
-use Rattle.listing.proofs.Answer.Laws as L′
-use Rattle.listing.proofs.list_blocks as list-blocks
-use Rattle.listing.proofs.list_blocks.Symbol as list-def
-use Rattle.listing.proofs.list_blocks.Symbol.{name as #listing·list-blocks}
-use Rattle.listing.proofs.list_blocks.Met as list-thm
-use Rattle.outcomes.specs.declared.Outcome.{Outcome}
-use Rattle.outcomes.specs.Listings.{outcome}
-use Rattle.outcomes.proofs.Outcome as S
-use Rattle.outcomes.proofs.Outcome.Laws as S′
+use Rattle.blocks_listing.specs.declared.Entry.{Entry}
+use Rattle.blocks_listing.specs.declared.Answer.{Answer}
+use Rattle.blocks_listing.specs.Listing.{listing, listingAnswer, entriesAfter}
+use Rattle.blocks_listing.proofs.Entry as T
+use Rattle.blocks_listing.proofs.Answer as L
+use Rattle.blocks_listing.proofs.Answer.Laws as L′
+use Rattle.blocks_listing.proofs.list_blocks as list-blocks
+use Rattle.blocks_listing.proofs.list_blocks.Symbol as list-def
+use Rattle.blocks_listing.proofs.list_blocks.Symbol.{name as #blocks-listing·list-blocks}
+use Rattle.blocks_listing.proofs.list_blocks.Met as list-thm
+use Rattle.numbers_outcomes.specs.declared.Outcome.{Outcome}
+use Rattle.numbers_outcomes.specs.Listings.{listOutcome}
+use Rattle.numbers_outcomes.proofs.Outcome as S
+use Rattle.numbers_outcomes.proofs.Outcome.Laws as S′
 use Rattle.strawhub_blocks.proofs.listings.outcome_of as out
 use Rattle.strawhub_blocks.proofs.listings.outcome_of.Symbol as out-def
 use Rattle.strawhub_blocks.proofs.listings.outcome_of.Symbol.{name as #strawhub-blocks·listings·outcome-of}
@@ -73,8 +73,8 @@ module _ {M : Type 1} (𝓤 : URA M) (H : Heap 𝓤) (A : Atoms 𝓤) (mem : Mem
   abbrev Out : Contract 𝓤
   Out = tripleOf 𝓤 H A out.signature (out.spec 𝓤 H A mem run)
 
-  out-said : (r : Answer) (d : Outcome) → ent 𝓤 (ensured 𝓤 H A out.ended (out.clauses 𝓤 H A mem run) tt (r, tt) tt d) (fact 𝓤 (d ≡ outcome r))
-  out-said r d = exE 𝓤 _ (λ ws. snd∗ 𝓤 (sem 𝓤 H A (lasts out.ended tt (r, tt) ws)) (fact 𝓤 (d ≡ outcome r)))
+  out-said : (r : Answer) (d : Outcome) → ent 𝓤 (ensured 𝓤 H A out.ended (out.clauses 𝓤 H A mem run) tt (r, tt) tt d) (fact 𝓤 (d ≡ listOutcome r))
+  out-said r d = exE 𝓤 _ (λ ws. snd∗ 𝓤 (sem 𝓤 H A (lasts out.ended tt (r, tt) ws)) (fact 𝓤 (d ≡ listOutcome r)))
 
 module _ {M : Type 1} (𝓤 : URA M) (H : Heap 𝓤) (A : Atoms 𝓤) (W : Given 𝓤 H A) (mem : Memory → SProp 𝓤) (run : Routine → Fun 𝓤) (κ κ′ : Lft) (q q′ : Share) (p : RefT (List ℕ)) (b o : ℕ) (γ : GName) (ys : List Entry) where
   abbrev x : RefT (List Entry)
@@ -101,9 +101,9 @@ module _ {M : Type 1} (𝓤 : URA M) (H : Heap 𝓤) (A : Atoms 𝓤) (W : Given
 
   -- what `list_blocks` says
   abbrev Said : Answer → List Entry → Type 0
-  Said r zs = (r ≡ answerOf (listing (length ys) (p .now))) × (zs ≡ filled (listing (length ys) (p .now)) ys)
+  Said r zs = (r ≡ listingAnswer (listing (length ys) (p .now))) × (zs ≡ entriesAfter (listing (length ys) (p .now)) ys)
 
-  exits : (d : Outcome) (w : Val) (zs : List Entry) → (d ≡ outcome (answerOf (listing (length ys) (p .now)))) × (zs ≡ filled (listing (length ys) (p .now)) ys) → length zs ≡ length ys
+  exits : (d : Outcome) (w : Val) (zs : List Entry) → (d ≡ listOutcome (listingAnswer (listing (length ys) (p .now)))) × (zs ≡ entriesAfter (listing (length ys) (p .now)) ys) → length zs ≡ length ys
       → ent 𝓤 (sep 𝓤 (sep 𝓤 (A .lft κ q) (sep 𝓤 (A .lft κ′ q′) (sem 𝓤 H A ftrue))) (sep 𝓤 (sem 𝓤 H A (finally R γ zs)) (sem 𝓤 H A (S.the-row .own d (w ∷ []))))) (Post w)
   exits d w zs e l =
       qed W ((‵ (flft κ q) ⊛ ‵ (flft κ′ q′) ⊛ ‵ ftrue) ∷ ‵ (finally R γ zs) ∷ ‵ (S.the-row .own d (w ∷ [])) ∷ []) ∵
@@ -123,7 +123,7 @@ module _ {M : Type 1} (𝓤 : URA M) (H : Heap 𝓤) (A : Atoms 𝓤) (W : Given
   goes-out : (r : Answer) (u : Val) → ent 𝓤 (sem 𝓤 H A (L.the-row .own r (u ∷ []))) (Out 𝓤 H A mem run .pre (to-out r u))
   goes-out r u = qed W (‵ (L.the-row .own r (u ∷ [])) ∷ []) ∵ nothing ! $ move ! (1 ∷ 0 ∷ []) $ fjoin ! $ nothing ! $ join ! $ frame ! $ done !
 
-  module _ (C : Calls 𝓤 H) (Λ : Loops 𝓤 H) (fm : FmC 𝓤 H (W .laws) C) (known-list : Triple 𝓤 (C #listing·list-blocks) (Lists 𝓤 H A mem run)) (known-out : Triple 𝓤 (C #strawhub-blocks·listings·outcome-of) (Out 𝓤 H A mem run)) where
+  module _ (C : Calls 𝓤 H) (Λ : Loops 𝓤 H) (fm : FmC 𝓤 H (W .laws) C) (known-list : Triple 𝓤 (C #blocks-listing·list-blocks) (Lists 𝓤 H A mem run)) (known-out : Triple 𝓤 (C #strawhub-blocks·listings·outcome-of) (Out 𝓤 H A mem run)) where
     walk : Room u8 (length (p .now)) → Room R (length ys) → ent 𝓤 (onEntry 𝓤 H A block-list.signature (κ, (κ′, tt)) (q, (q′, tt)) a vals) (WpFn 𝓤 H C Λ code.function (v₁ ∷ v₂ ∷ []) Post)
     walk room₁ room =
         qed W ((‵ (flft κ q) ⊛ ‵ (flft κ′ q′) ⊛ ‵ ftrue) ∷ ‵ (owns (ShrSlice (named 0) κ u8 ∷ MutSlice (named 1) κ′ R ∷ []) a vals) ∷ []) ∵ enter ! C Λ code.function (v₁ ∷ v₂ ∷ []) _ $
@@ -145,15 +145,15 @@ module _ {M : Type 1} (𝓤 : URA M) (H : Heap 𝓤) (A : Atoms 𝓤) (W : Given
         use1 W (raw (Out 𝓤 H A mem run .pre (to-out r u))) (goes-out r u) $
         calls-at ! fm (Out 𝓤 H A mem run) known-out (to-out r u) (and-then ! (load ! (from ! (stop !)) (look ! 9 refl)) (no-more !)) (λ w.
         use1 W (later (some (λ (d : Outcome). (‵ ftrue ⊛ ‵ (S.the-row .own d (w ∷ []))) ⊛ raw (ensured 𝓤 H A out.ended (out.clauses 𝓤 H A mem run) tt (r, tt) tt d)))) (id⊢ 𝓤 _) $ await ! tt $ pick ! (λ d.
-        split ! $ move ! (1 ∷ []) $ use1 W (raw (fact 𝓤 (d ≡ outcome r))) (out-said 𝓤 H A mem run r d) $ heard ! (d ≡ outcome r) (λ e₂. split ! $ move ! (1 ∷ []) $
+        split ! $ move ! (1 ∷ []) $ use1 W (raw (fact 𝓤 (d ≡ listOutcome r))) (out-said 𝓤 H A mem run r d) $ heard ! (d ≡ listOutcome r) (λ e₂. split ! $ move ! (1 ∷ []) $
         -- [the outcome; true; the tokens; the last list; true; true; _5; …]
         peeks ! S.the-row (Is S.the-row) (shows 𝓤 H A S.the-row) d (w ∷ []) (λ is₂.
         land ! (from ! (stop !)) (init ! 16 refl (LL.lawful S.the-type S′.the-laws 𝓤 H A W .typed d _ is₂ .0)) $
         returns ! (look ! 16 refl) $ forget ! 6 refl $ forget ! 8 refl $ forget ! 10 refl $ forget ! 12 refl $ forget ! 14 refl $ forget ! 16 refl $
         move ! (16 ∷ 17 ∷ []) $ free1 ! $ move ! (14 ∷ 15 ∷ []) $ free1 ! $ move ! (12 ∷ 13 ∷ []) $ free1 ! $ move ! (10 ∷ 11 ∷ []) $ free1 ! $ move ! (8 ∷ 9 ∷ []) $ free1 ! $ move ! (6 ∷ 7 ∷ []) $ free1 ! $ free0 ! $
-        keep ! (2 ∷ 3 ∷ 0 ∷ []) $ by ! (exits d w (zs .1 .0) (e₂ ∙ ap outcome (e .0), e .1) l)))))))))))))))))
+        keep ! (2 ∷ 3 ∷ 0 ∷ []) $ by ! (exits d w (zs .1 .0) (e₂ ∙ ap listOutcome (e .0), e .1) l)))))))))))))))))
 
-module _ {M : Type 1} (𝓤 : URA M) (H : Heap 𝓤) (A : Atoms 𝓤) (W : Given 𝓤 H A) (mem : Memory → SProp 𝓤) (run : Routine → Fun 𝓤) (𝓣 : Tables 𝓤 H) (known-list : Triple 𝓤 (𝓣 .C #listing·list-blocks) (Lists 𝓤 H A mem run)) (known-out : Triple 𝓤 (𝓣 .C #strawhub-blocks·listings·outcome-of) (Out 𝓤 H A mem run)) where
+module _ {M : Type 1} (𝓤 : URA M) (H : Heap 𝓤) (A : Atoms 𝓤) (W : Given 𝓤 H A) (mem : Memory → SProp 𝓤) (run : Routine → Fun 𝓤) (𝓣 : Tables 𝓤 H) (known-list : Triple 𝓤 (𝓣 .C #blocks-listing·list-blocks) (Lists 𝓤 H A mem run)) (known-out : Triple 𝓤 (𝓣 .C #strawhub-blocks·listings·outcome-of) (Out 𝓤 H A mem run)) where
   block-list-walks : Walks 𝓤 H A block-list.ended stayed (WpFn 𝓤 H (𝓣 .C) (𝓣 .Λ) code.function) (block-list.clauses 𝓤 H A mem run)
   block-list-walks = walked 𝓤 H A block-list.ended stayed (block-list.clauses 𝓤 H A mem run) (WpFn 𝓤 H (𝓣 .C) (𝓣 .Λ) code.function)
       (λ κs. (slice-vals, (slice-vals, tt))) (λ κs. (shr-slice-tells (named 0) (κs .0) u8, (mut-slice-tells (named 1) (κs .1 .0) R, tt)))
@@ -171,5 +171,5 @@ strawhub-block-list-spec 𝓤 H 𝓜 𝓖 𝓡 =
     entered 𝓤 H (tripleOf 𝓤 H (𝓖 .A) block-list.signature (block-list.spec 𝓤 H (𝓖 .A) (𝓜 .mem) (𝓡 .run)))
     (tables 𝓤 H 𝓜 𝓡 code.env .C) (tables 𝓤 H 𝓜 𝓡 code.env .Λ) #strawhub-blocks·listings·strawhub-block-list code.function (code.unfolded 𝓤 H 𝓜 𝓡)
     (block-list-meets 𝓤 H (𝓖 .A) (givenOf 𝓤 H 𝓜 𝓖) (𝓜 .mem) (𝓡 .run) (tablesOf 𝓤 H 𝓜 (tables 𝓤 H 𝓜 𝓡 code.env))
-    (cited 𝓤 H (Lists 𝓤 H (𝓖 .A) (𝓜 .mem) (𝓡 .run)) 𝓜 𝓡 code.env #listing·list-blocks list-def.routine code.calls-listing·list-blocks (list-thm.met 𝓤 H 𝓜 𝓖 𝓡))
+    (cited 𝓤 H (Lists 𝓤 H (𝓖 .A) (𝓜 .mem) (𝓡 .run)) 𝓜 𝓡 code.env #blocks-listing·list-blocks list-def.routine code.calls-blocks-listing·list-blocks (list-thm.met 𝓤 H 𝓜 𝓖 𝓡))
     (cited 𝓤 H (Out 𝓤 H (𝓖 .A) (𝓜 .mem) (𝓡 .run)) 𝓜 𝓡 code.env #strawhub-blocks·listings·outcome-of out-def.routine code.calls-strawhub-blocks·listings·outcome-of (out-thm.met 𝓤 H 𝓜 𝓖 𝓡)))

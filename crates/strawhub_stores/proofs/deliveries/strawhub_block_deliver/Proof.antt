@@ -1,5 +1,5 @@
-use Rattle.outcomes.specs.Deliveries.{deliveredAt}
-use Rattle.outcomes.proofs.DeliveryLaws.{told-of}
+use Rattle.numbers_outcomes.specs.Deliveries.{deliveredAt}
+use Rattle.numbers_outcomes.proofs.DeliveryLaws.{told-of}
 use borrow.Author.Needs.{needs}
 use Rattle.strawhub_stores.proofs.deliveries.strawhub_block_deliver.Statement.{statement}
 use Rattle.strawhub_stores.proofs.deliveries.strawhub_block_deliver.Tie as tie

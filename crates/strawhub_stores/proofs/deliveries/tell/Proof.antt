@@ -1,6 +1,6 @@
 use mathlib.Core.Path.{_≡_, refl}
 use mathlib.Core.Bool.{true, false}
-use Rattle.outcomes.specs.Deliveries.{refused, deliveryOutcome, deliveryNumbers}
+use Rattle.numbers_outcomes.specs.Deliveries.{isRefused, deliveryOutcome, deliveryNumbers}
 use borrow.Author.Needs.{needs}
 use Rattle.strawhub_stores.proofs.deliveries.tell.Statement.{statement}
 use Rattle.strawhub_stores.proofs.deliveries.tell.Tie as tie
@@ -10,7 +10,7 @@ cast-t6 c = search needs
 
 returns : tie.Need-returns
 unfolding deliveryOutcome deliveryNumbers
-returns c = let t : refused (c .before .before .before .before .args .r) ≡ true = c .before .if1 .taken in rw t (refl, refl)
+returns c = let t : isRefused (c .before .before .before .before .args .r) ≡ true = c .before .if1 .taken in rw t (refl, refl)
 
 cast-t8 : tie.Need-cast-t8
 cast-t8 c = search needs
@@ -29,7 +29,7 @@ cast-t8-2 c = search needs
 
 returns-2 : tie.Need-returns-2
 unfolding deliveryOutcome deliveryNumbers
-returns-2 c = let t : refused (c .before .before .before .before .before .before .before .before .before .args .r) ≡ false = c .before .before .before .before .before .before .if1 .left in rw t (refl, refl)
+returns-2 c = let t : isRefused (c .before .before .before .before .before .before .before .before .before .args .r) ≡ false = c .before .before .before .before .before .before .if1 .left in rw t (refl, refl)
 
 pub tell-spec : {M : Type 1} → statement M
 tell-spec =

@@ -1,0 +1,96 @@
+// The store's record in lent bytes: 16 heads of 24 bytes, then 16 tables of 128 entries of 4 bytes. All zero is the empty store.
+use reassembly::Entry;
+use reassembly::Head;
+ghost use mathlib.Core.Path.{_≡_};
+ghost use Prim.Native.Nat.{_+_, _*_, _<_, _≤_};
+ghost use lib.ListN.{length, replicate};
+ghost use Rattle.wire.specs.Parts.{splice};
+ghost use Rattle.reassembly.specs.Record.{headOf, entryOf, headAt, withHead, entryAt, withEntry, cleared};
+
+fn head_of(b: &[u8]) -> Head
+    requires { ⌜ length (now b) ≡ 24 ⌝ }
+    ensures { λ r. ⌜ r ≡ headOf (now (b .entry)) ⌝ }
+{
+    Head {
+        id: wire_numbers::le_u32(b, 0),
+        opened: wire_numbers::le_u64(b, 4),
+        expires: wire_numbers::le_u32(b, 12),
+        total: wire_numbers::le_u16(b, 16),
+        count: b[18],
+        last: b[19],
+        top: b[20],
+        kind: b[21],
+    }
+}
+
+// The head of slot i.
+pub fn load_head(rec: &[u8], i: usize) -> Head
+    requires { ⌜ (8576 ≤ length (now rec)) × (i < 16) ⌝ }
+    ensures { λ r. ⌜ r ≡ headAt (now (rec .entry)) i ⌝ }
+{
+    let a = i * 24;
+    let e = a + 24;
+    head_of(&rec[a..e])
+}
+
+pub fn save_head(rec: &mut [u8], i: usize, h: Head)
+    requires { ⌜ (8576 ≤ length (now rec)) × (i < 16) ⌝ }
+    ensures { λ _. ⌜ now (rec .exit) ≡ withHead (now (rec .entry)) i h ⌝ }
+{
+    let at = i * 24;
+    wire_numbers::put_u32_le(rec, at, h.id);
+    wire_numbers::put_u64_le(rec, at + 4, h.opened);
+    wire_numbers::put_u32_le(rec, at + 12, h.expires);
+    wire_numbers::put_u16_le(rec, at + 16, h.total);
+    let rest = [h.count, h.last, h.top, h.kind, 0, 0];
+    wire::copy_to(rec, at + 18, &rest);
+}
+
+fn entry_of(b: &[u8]) -> Entry
+    requires { ⌜ length (now b) ≡ 4 ⌝ }
+    ensures { λ r. ⌜ r ≡ entryOf (now (b .entry)) ⌝ }
+{
+    Entry {
+        place: wire_numbers::le_u16(b, 0),
+        len: wire_numbers::le_u16(b, 2),
+    }
+}
+
+// The entry of number k in slot i.
+pub fn load_entry(rec: &[u8], i: usize, k: usize) -> Entry
+    requires { ⌜ (8576 ≤ length (now rec)) × (i < 16) × (k < 128) ⌝ }
+    ensures { λ r. ⌜ r ≡ entryAt (now (rec .entry)) i k ⌝ }
+{
+    let a = 384 + i * 512 + k * 4;
+    let e = a + 4;
+    entry_of(&rec[a..e])
+}
+
+pub fn save_entry(rec: &mut [u8], i: usize, k: usize, e: Entry)
+    requires { ⌜ (8576 ≤ length (now rec)) × (i < 16) × (k < 128) ⌝ }
+    ensures { λ _. ⌜ now (rec .exit) ≡ withEntry (now (rec .entry)) i k e ⌝ }
+{
+    let at = 384 + i * 512 + k * 4;
+    wire_numbers::put_u16_le(rec, at, e.place);
+    wire_numbers::put_u16_le(rec, at + 2, e.len);
+}
+
+// n zeros from a place on; every other byte stays.
+pub fn clear(b: &mut [u8], at: usize, n: usize)
+    requires { ⌜ at + n ≤ length (now b) ⌝ }
+    ensures { λ _. ⌜ now (b .exit) ≡ splice (now (b .entry)) at (replicate n 0) ⌝ }
+{
+    let mut i = 0;
+    while i < n {
+        b[at + i] = 0;
+        i += 1;
+    }
+}
+
+// No number of slot i is held.
+pub fn clear_entries(rec: &mut [u8], i: usize)
+    requires { ⌜ (8576 ≤ length (now rec)) × (i < 16) ⌝ }
+    ensures { λ _. ⌜ now (rec .exit) ≡ cleared (now (rec .entry)) i ⌝ }
+{
+    clear(rec, 384 + i * 512, 512);
+}

@@ -1,0 +1,174 @@
+// A piece of a message taken into the store: kept, or its message finished, or refused. Its caller has tested sizes and numbers.
+use reassembly::Entry;
+use reassembly::Head;
+use reassembly::Label;
+use reassembly::Reply;
+use reassembly_slots::pieces;
+use wire::usize_from_u8;
+use wire::usize_from_u16;
+ghost use mathlib.Core.Path.{_≡_};
+ghost use mathlib.Core.List.{List};
+ghost use Prim.Native.Nat.{ℕ, _+_, _<_, _≤_};
+ghost use lib.ListN.{length};
+ghost use Rattle.reassembly.specs.Calls.{after, bare, keptRec, keptRoom, finished, putIn, compared, added, openedIn, openedNow, takenPiece};
+
+pub fn bare(n: u8) -> Reply
+    ensures { λ r. ⌜ r ≡ bare n ⌝ }
+{
+    Reply {
+        number: n,
+        kind: 0,
+        expires: 0,
+        length: 0,
+    }
+}
+
+// A piece is kept as number k of slot i, after the `total` bytes that the slot holds; the slot's head is then g.
+fn keep(rec: &mut [u8], room: &mut [u8], i: usize, k: usize, total: u16, g: Head, bytes: &[u8])
+    requires { ⌜ (8576 ≤ length (now rec)) × (1048560 ≤ length (now room)) × (i < 16) × (k < 128) × (total + length (now bytes) ≤ 65535) ⌝ }
+    ensures { λ _. ⌜ now (rec .exit) ≡ keptRec (now (rec .entry)) i k total (length (now (bytes .entry))) g ⌝ }
+    ensures { λ _. ⌜ now (room .exit) ≡ keptRoom (now (room .entry)) i total (now (bytes .entry)) ⌝ }
+{
+    let n = bytes.len();
+    wire::copy_to(room, i * 65535 + usize_from_u16(total), bytes);
+    reassembly_records::save_entry(
+        rec,
+        i,
+        k,
+        Entry {
+            place: total,
+            len: n as u16,
+        },
+    );
+    reassembly_records::save_head(rec, i, g);
+}
+
+// The message of slot i, finished by the piece: 59, or 56, or it is put to the start of out and its slot is free.
+fn finish(
+    rec: &mut [u8],
+    room: &[u8],
+    out: &mut [u8],
+    i: usize,
+    l: Label,
+    g: Head,
+    bytes: &[u8],
+) -> Reply
+    requires { ⌜ (8576 ≤ length (now rec)) × (1048560 ≤ length (now room)) × (i < 16) × (g .last < 128) × (length (now bytes) ≤ 1500) ⌝ }
+    ensures { λ r. ⌜ after r (now (rec .exit)) (now (room .entry)) (now (out .exit)) ≡ finished (now (rec .entry)) (now (room .entry)) (now (out .entry)) i l g (now (bytes .entry)) ⌝ }
+{
+    let k = usize_from_u8(l.number);
+    let last = usize_from_u8(g.last);
+    let m = pieces::measure(rec, i, k, bytes, last);
+    if m.outside {
+        return bare(59);
+    }
+    if out.len() < m.size {
+        return bare(56);
+    }
+    pieces::assemble(rec, room, out, i, k, bytes, last);
+    reassembly_records::save_head(rec, i, reassembly_judge::no_head());
+    Reply {
+        number: 60,
+        kind: g.kind,
+        expires: g.expires,
+        length: m.size,
+    }
+}
+
+// A piece that fits slot i, whose head is h: 53, or the message is finished, or the piece is kept.
+fn put(
+    rec: &mut [u8],
+    room: &mut [u8],
+    out: &mut [u8],
+    i: usize,
+    h: Head,
+    l: Label,
+    bytes: &[u8],
+) -> Reply
+    requires { ⌜ (8576 ≤ length (now rec)) × (1048560 ≤ length (now room)) × (i < 16) × (l .number < 128) × (length (now bytes) ≤ 1500) ⌝ }
+    ensures { λ r. ⌜ after r (now (rec .exit)) (now (room .exit)) (now (out .exit)) ≡ putIn (now (rec .entry)) (now (room .entry)) (now (out .entry)) i h l (now (bytes .entry)) ⌝ }
+{
+    let n = bytes.len();
+    if 65535 < usize_from_u16(h.total) + n {
+        return bare(53);
+    }
+    let g = reassembly_judge::grown(h, l, n as u16);
+    if reassembly_judge::is_complete(g) {
+        return finish(rec, room, out, i, l, g, bytes);
+    }
+    keep(rec, room, i, usize_from_u8(l.number), h.total, g, bytes);
+    bare(0)
+}
+
+// A piece whose number is held in slot i, whose head is h: 59, or 54 or 55.
+fn compare(rec: &[u8], room: &[u8], i: usize, h: Head, l: Label, bytes: &[u8]) -> u8
+    requires { ⌜ (8576 ≤ length (now rec)) × (1048560 ≤ length (now room)) × (i < 16) × (l .number < 128) ⌝ }
+    ensures { λ r. ⌜ r ≡ compared (now (rec .entry)) (now (room .entry)) i h l (now (bytes .entry)) ⌝ }
+{
+    let k = usize_from_u8(l.number);
+    let e = reassembly_records::load_entry(rec, i, k);
+    if pieces::outside(e) {
+        return 59;
+    }
+    reassembly_judge::again(h, l, pieces::piece(rec, room, i, k), bytes)
+}
+
+// A piece of the open message of slot i: it is compared with the held one, or 55, or it is put.
+fn add(rec: &mut [u8], room: &mut [u8], out: &mut [u8], i: usize, l: Label, bytes: &[u8]) -> Reply
+    requires { ⌜ (8576 ≤ length (now rec)) × (1048560 ≤ length (now room)) × (i < 16) × (l .number < 128) × (length (now bytes) ≤ 1500) ⌝ }
+    ensures { λ r. ⌜ after r (now (rec .exit)) (now (room .exit)) (now (out .exit)) ≡ added (now (rec .entry)) (now (room .entry)) (now (out .entry)) i l (now (bytes .entry)) ⌝ }
+{
+    let h = reassembly_records::load_head(rec, i);
+    let k = usize_from_u8(l.number);
+    let e = reassembly_records::load_entry(rec, i, k);
+    if e.len != 0 {
+        return bare(compare(rec, room, i, h, l, bytes));
+    }
+    if reassembly_judge::misfits(h, l) {
+        return bare(55);
+    }
+    put(rec, room, out, i, h, l, bytes)
+}
+
+// A piece of a message that is not open is kept in the free slot i.
+fn open_in(rec: &mut [u8], room: &mut [u8], i: usize, l: Label, second: u64, bytes: &[u8])
+    requires { ⌜ (8576 ≤ length (now rec)) × (1048560 ≤ length (now room)) × (i < 16) × (l .number < 128) × (length (now bytes) ≤ 1500) ⌝ }
+    ensures { λ _. ⌜ ((out : List ℕ) → after (bare 0) (now (rec .exit)) (now (room .exit)) out ≡ openedIn (now (rec .entry)) (now (room .entry)) out i l second (now (bytes .entry))) ⌝ }
+{
+    let n = bytes.len();
+    reassembly_records::clear_entries(rec, i);
+    let g = reassembly_judge::grown(reassembly_judge::new_head(l, second), l, n as u16);
+    keep(rec, room, i, usize_from_u8(l.number), 0, g, bytes);
+}
+
+// A piece of a message that is not open: 52, or it is kept in the first free slot.
+fn open(rec: &mut [u8], room: &mut [u8], l: Label, second: u64, bytes: &[u8]) -> Reply
+    requires { ⌜ (8576 ≤ length (now rec)) × (1048560 ≤ length (now room)) × (l .number < 128) × (length (now bytes) ≤ 1500) ⌝ }
+    ensures { λ r. ⌜ ((out : List ℕ) → after r (now (rec .exit)) (now (room .exit)) out ≡ openedNow (now (rec .entry)) (now (room .entry)) out l second (now (bytes .entry))) ⌝ }
+{
+    let i = reassembly_slots::vacant(rec);
+    if 16 <= i {
+        return bare(52);
+    }
+    open_in(rec, room, i, l, second, bytes);
+    bare(0)
+}
+
+// A piece of any message.
+pub fn take(
+    rec: &mut [u8],
+    room: &mut [u8],
+    out: &mut [u8],
+    l: Label,
+    second: u64,
+    bytes: &[u8],
+) -> Reply
+    requires { ⌜ (8576 ≤ length (now rec)) × (1048560 ≤ length (now room)) × (l .number < 128) × (length (now bytes) ≤ 1500) ⌝ }
+    ensures { λ r. ⌜ after r (now (rec .exit)) (now (room .exit)) (now (out .exit)) ≡ takenPiece (now (rec .entry)) (now (room .entry)) (now (out .entry)) l second (now (bytes .entry)) ⌝ }
+{
+    let i = reassembly_slots::find(rec, l.id);
+    if i < 16 {
+        return add(rec, room, out, i, l, bytes);
+    }
+    open(rec, room, l, second, bytes)
+}

@@ -1,0 +1,39 @@
+use mathlib.Core.Path.{ap, sym, _∙_}
+use mathlib.Core.List.{[], _∷_}
+use Prim.Native.Nat.{_/_, _%_}
+use lib.ListN.{length-set}
+use Rattle.wire.specs.Parts.{splice}
+use Rattle.wire.proofs.Parts.{stores-splice}
+use Rattle.wire.proofs.Numbers.{little-two}
+use borrow.Author.Needs.{needs}
+use Rattle.wire_numbers.proofs.put_u16_le.Statement.{statement}
+use Rattle.wire_numbers.proofs.put_u16_le.Tie as tie
+
+cast-b : tie.Need-cast-b
+cast-b c = search needs
+
+slice-write-b : tie.Need-slice-write-b
+slice-write-b c = search needs
+
+cast-b-2 : tie.Need-cast-b-2
+cast-b-2 c = search needs
+
+add-b : tie.Need-add-b
+add-b c = search needs
+
+slice-write-b-2 : tie.Need-slice-write-b-2
+slice-write-b-2 c = simp length-set (search needs)
+
+same-length : tie.Need-same-length
+same-length c = search needs
+
+returns : tie.Need-returns
+returns c =
+    let a = c .args in
+    let x = a .x in
+    stores-splice (a .b .now) (a .at) (x % 256) (x / 256 ∷ []) (search needs)
+    ∙ ap (splice (a .b .now) (a .at)) (sym (little-two x (search needs)))
+
+pub put-u16-le-spec : {M : Type 1} → statement M
+put-u16-le-spec =
+    tie.close (tie.spec cast-b slice-write-b cast-b-2 add-b slice-write-b-2 same-length returns)
