@@ -1,4 +1,4 @@
-# make list: the blocks of a payload. make test: the format, a short round of each test below, then the whole gate.
+# make list: the blocks of a payload. make test: the gate: everything proved, every must-fail edit tried, a short round of each test below.
 # make oracle: the original Rust beside the library, millions of calls. make bench: both sides timed in one run.
 # make calls: the C calls, and a short round of any bytes. make fuzz: ten million. make rust: the crate's tests.
 # make second: the library beside an independent program of the rules; WORDS=-l for the long round.
@@ -19,12 +19,7 @@ list:
 	@tools/run lister <"$(FILE)"
 
 test:
-	rt fmt --check
-	tests/c/run
-	rust/run
-	tests/second/run
-	oracle/run '' 1 500000
-	rt ci
+	tools/gate
 
 oracle:
 	oracle/run

@@ -20,7 +20,7 @@ use Rattle.acks.proofs.Ring.{length-clear}
 use Rattle.acks.proofs.Recording.{is-long, read-back}
 
 -- a tracker that 259 bytes hold
-record Fits (t : Tracker) : Type 0 where
+record TrackerInWidth (t : Tracker) : Type 0 where
   small : t .highest < 256 ^ 4
   long : length (t .marks) ≡ 255
 
@@ -31,11 +31,11 @@ length-after m top n =
     ∙ length-clear (set m (top % 255) 1) (top + 1) (n - top - 1)
     ∙ length-set m (top % 255) 1
 
-fits-step : (t : Tracker) (n : ℕ) → Fits t → n < 256 ^ 4 → Fits (registerOf t n .tracker)
+fits-step : (t : Tracker) (n : ℕ) → TrackerInWidth t → n < 256 ^ 4 → TrackerInWidth (registerOf t n .tracker)
 unfolding registerOf acceptOf
 fits-step t n f h = go (eqb (registerAnswer t n) 0)
   where
-    go : (b : Bool) → Fits (cond b (acceptOf t n) t)
+    go : (b : Bool) → TrackerInWidth (cond b (acceptOf t n) t)
     go true = record { small = omega (arith, f .small); long = length-after (t .marks) (t .highest) n ∙ f .long }
     go false = f
 
@@ -45,13 +45,13 @@ record Holds (r0 r : List ℕ) (t : Tracker) : Type 0 where
   room : 259 ≤ length r
   size : length r ≡ length r0
   behind : drop 259 r ≡ drop 259 r0
-  fits : Fits t
+  fits : TrackerInWidth t
 
 holds-step : (r0 r : List ℕ) (t : Tracker) (n : ℕ) → Holds r0 r t → n < 256 ^ 4 → Holds r0 (recordAfter r n) (registerOf t n .tracker)
 unfolding recordAfter trackerBytes
 holds-step r0 r t n h small =
     let u : Tracker = registerOf t n .tracker in
-    let f : Fits (registerOf t n .tracker) = fits-step t n (h .fits) small in
+    let f : TrackerInWidth (registerOf t n .tracker) = fits-step t n (h .fits) small in
     let size : length (littleBytes 4 (u .highest) ++ u .marks) ≡ 259 =
     length-append (littleBytes 4 (u .highest)) (u .marks) ∙ omega (arith, length-little 4 (u .highest), f .long) in
     let same : length (splice r 0 (littleBytes 4 (u .highest) ++ u .marks)) ≡ length r =

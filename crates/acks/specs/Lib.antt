@@ -1,4 +1,4 @@
--- What the contracts of `marks`, `tracker`, `reports` and `expand` cite, in the words of the rules.
+-- What the contracts of `acks_marks`, `acks_tracker`, `acks_reports` and `acks_expand` cite, in the words of the rules.
 pub mod Window
 pub mod History
 pub mod Tracking

@@ -11,13 +11,21 @@ use Rattle.acks.specs.Reporting.{refusedReport, ackInfo}
 use Rattle.acks.specs.declared.Tracker.{Tracker}
 use Rattle.acks.specs.declared.AckInfo.{AckInfo}
 
+-- the bytes of a tracker's record
+abbrev pub trackerSize : ℕ
+trackerSize = 259
+
+-- where its marks begin
+abbrev pub marksAt : ℕ
+marksAt = 4
+
 -- fewer bytes than a record has
 unfoldable pub trackerShort : List ℕ → Bool
-trackerShort r = ltb (length r) 259
+trackerShort r = ltb (length r) trackerSize
 
--- the tracker that the first 259 bytes are: every byte pattern is one
+-- the tracker that its first bytes are: every byte pattern is one
 unfoldable pub trackerAt : List ℕ → Tracker
-trackerAt r = record { highest = littleAt 4 r 0; marks = part r 4 255 }
+trackerAt r = record { highest = littleAt 4 r 0; marks = part r marksAt 255 }
 
 -- the bytes of a tracker
 unfoldable pub trackerBytes : Tracker → List ℕ

@@ -1,4 +1,9 @@
-// Acknowledgements: which packet numbers came, and what to tell the sender. The Rust's `ack.rs`, as types and definitions; crates `tracker`, `reports` and `expand` have the calls.
+// Acknowledgements: which packet numbers came, and what to tell the sender. The Rust's `ack.rs`, as types and definitions; crates `acks_tracker`, `acks_reports` and `acks_expand` have the calls.
+
+// The bytes of a tracker's record, and where its marks begin there: specs/Recorded.antt.
+pub const TRACKER_SIZE: usize = 259;
+
+pub const MARKS_AT: usize = 4;
 
 // The highest number seen, and the marks of the 255 numbers that end there. The Rust's `RemoteAckManager`.
 pub struct Tracker {

@@ -8,6 +8,8 @@ ghost use Rattle.acks.specs.Tracking.{mark};
 ghost use Rattle.acks.specs.Reporting.{refusedReport, reportOf, ackInfo};
 ghost use Rattle.acks.specs.Recorded.{reportThere};
 use acks::AckInfo;
+use acks::MARKS_AT;
+use acks::TRACKER_SIZE;
 use acks::Tracker;
 
 fn refused(number: u32) -> AckInfo
@@ -54,9 +56,9 @@ pub fn report(t: Tracker) -> AckInfo
 pub fn report_in(tracker: &[u8]) -> AckInfo
     ensures { λ r. ⌜ r ≡ reportThere (now (tracker .entry)) ⌝ }
 {
-    if tracker.len() < 259 {
+    if tracker.len() < TRACKER_SIZE {
         return refused(59);
     }
     let top = wire_numbers::le_u32(tracker, 0);
-    report_of(&tracker[4..259], top)
+    report_of(&tracker[MARKS_AT..TRACKER_SIZE], top)
 }

@@ -1,4 +1,4 @@
--- What the contracts of `extents`, `sound`, `reader`, `fields` and `writer` cite.
+-- What the contracts of `blocks_extents`, `blocks_sound`, `blocks_reader`, `blocks_fields` and `blocks_writer` cite.
 pub mod Extent
 pub mod Sound
 pub mod Reading

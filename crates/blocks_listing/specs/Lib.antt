@@ -1,3 +1,3 @@
--- What the contracts of `listing` cite.
+-- What the contracts of `blocks_listing` cite.
 pub mod Listing
 pub mod Claims

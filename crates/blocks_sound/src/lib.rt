@@ -22,7 +22,7 @@ const HIGH: usize = 0x14_00C4;
 const DEAF: u32 = 0x33_8001;
 
 fn row_of(kind: u8) -> usize
-    ensures { λ r. ⌜ r ≡ cond (ltb kind 16) 1407375034548420 1310916 ⌝ }
+    ensures { λ r. ⌜ r ≡ cond (ltb kind 16) 0x50000090000C4 0x1400C4 ⌝ }
 {
     if kind < 16 {
         return LOW;

@@ -2,8 +2,8 @@
 ghost use mathlib.Core.Path.{_≡_};
 ghost use Prim.Native.Nat.{_*_, _<_};
 use std::num::wrapping_add_u32;
-use wire_numbers::put_u32_le;
 use wire_numbers::le_u32;
+use wire_numbers::put_u32_le;
 ghost use Rattle.wire.specs.Parts.{splice};
 ghost use Rattle.wire.specs.Numbers.{littleBytes};
 ghost use Rattle.keystream.specs.Chacha.{quadAt, rotl, lineAD, lineCB, doubleRound, addWords, serialise};

@@ -33,5 +33,5 @@ abbrev pub unread : ℕ → ℕ → ℕ → ℕ
 unread used have size = min have size - used
 
 -- those bytes
-abbrev pub kept : List ℕ → ℕ → ℕ → List ℕ
-kept buf used have = part buf used (unread used have (length buf))
+abbrev pub keptBytes : List ℕ → ℕ → ℕ → List ℕ
+keptBytes buf used have = part buf used (unread used have (length buf))

@@ -4,7 +4,7 @@ ghost use mathlib.Core.Bool.{true};
 ghost use Prim.Native.Nat.{_+_, _-_, _≤_};
 ghost use lib.ListN.{length, drop};
 ghost use Rattle.wire.specs.Parts.{part, splice};
-ghost use Rattle.lines.specs.Fields.{isEnd, lead, fieldAt, past, wholeUpTo, unread, kept};
+ghost use Rattle.lines.specs.Fields.{isEnd, lead, fieldAt, past, wholeUpTo, unread, keptBytes};
 ghost use Rattle.lines.specs.Digits.{digitOf, pairOf, pairsOf, allBytes, bytesIn, withBytes, decimalOf};
 
 const SPACE: u8 = 32;
@@ -106,7 +106,7 @@ fn shift(buf: &mut [u8], from: usize, n: usize)
 
 // What was not used of a buffer's first bytes moved to its front, and more read after it; how many bytes there are now.
 pub fn refill(fd: i32, buf: &mut [u8], used: usize, have: usize) -> usize
-    ensures { λ r. ⌜ part (now (buf .exit)) 0 (unread used have (length (now (buf .entry)))) ≡ kept (now (buf .entry)) used have ⌝ }
+    ensures { λ r. ⌜ part (now (buf .exit)) 0 (unread used have (length (now (buf .entry)))) ≡ keptBytes (now (buf .entry)) used have ⌝ }
     ensures { λ r. ⌜ (unread used have (length (now (buf .entry))) ≤ r) × (r ≤ length (now (buf .exit))) ⌝ }
 {
     let left = between(used, have, buf.len());

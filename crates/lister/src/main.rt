@@ -1,7 +1,7 @@
 // Lists the blocks of a payload: raw bytes from standard input, a line for each block.
+use blocks_listing::Entry;
 use libc::STDIN_FILENO;
 use libc::STDOUT_FILENO;
-use blocks_listing::Entry;
 
 const LONGEST: usize = 1500;
 

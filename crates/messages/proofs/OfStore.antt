@@ -17,7 +17,7 @@ use Rattle.blocks.specs.declared.Read.the-variants as Got
 use Rattle.blocks.specs.Reading.{readAt}
 use Rattle.reassembly.specs.declared.Reply.{Reply}
 use Rattle.reassembly.specs.Store.{first, follow, Rebuilt, Answer, step}
-use Rattle.reassembly.specs.Calls.{After, firstCall, followOnCall}
+use Rattle.reassembly.specs.Calls.{lent, After, firstCall, followOnCall}
 use Rattle.reassembly.specs.Stands.{stands, Agrees}
 use Rattle.reassembly.proofs.Steps.{first-promise, follow-promise}
 use Rattle.reassembly.proofs.Brought.{Sober, step-sober, reply-number, reply-some, laid-some}
@@ -75,25 +75,25 @@ rebuilt-of : (s : List ℕ) (at : ℕ) (out : List ℕ) (x : After) (a : Answer)
 unfolding rebuilt outBytes
 rebuilt-of s at out x a id g b = go (a .out) refl
   where
-    of : rebuiltBy at (x .reply) id ≡ receivedFor at id (a .number) (a .out) → messageIn s (x .out) (receivedFor at id (a .number) (a .out)) ≡ outBytes (a .out)
-        → OfStore s at id out (deliveryWith (rebuiltBy at (x .reply) id) (x .rec) (x .room) (x .out)) a
+    of : rebuiltBy at (x .reply) id ≡ receivedFor at id (a .number) (a .out) → messageIn s (x .left .out) (receivedFor at id (a .number) (a .out)) ≡ outBytes (a .out)
+        → OfStore s at id out (deliveryWith (rebuiltBy at (x .reply) id) (x .left)) a
     of d m =
         record {
           received = d;
           buffer = g .delivered;
           number = ap (λ (z : Received). z .number) d ∙ received-number at id (a .number) (a .out);
-          message = ap (messageIn s (x .out)) d ∙ m;
+          message = ap (messageIn s (x .left .out)) d ∙ m;
           store = g .store;
           made = g .made;
         }
 
-    go : (o : Option Rebuilt) → a .out ≡ o → OfStore s at id out (deliveryWith (rebuiltBy at (x .reply) id) (x .rec) (x .room) (x .out)) a
+    go : (o : Option Rebuilt) → a .out ≡ o → OfStore s at id out (deliveryWith (rebuiltBy at (x .reply) id) (x .left)) a
     go none e =
         of (from-none at (x .reply) id (a .number) (reply-number out x a g) (b .none-out e) ∙ ap (receivedFor at id (a .number)) (sym e))
-        (ap (λ (o : Option Rebuilt). messageIn s (x .out) (receivedFor at id (a .number) o)) e ∙ none-shown s (x .out) at id (a .number) ∙ ap outBytes (sym e))
+        (ap (λ (o : Option Rebuilt). messageIn s (x .left .out) (receivedFor at id (a .number) o)) e ∙ none-shown s (x .left .out) at id (a .number) ∙ ap outBytes (sym e))
     go (some w) e =
         of (from-some at (x .reply) id (a .number) w (b .some-out w e .0) (reply-some out x a g w e) ∙ ap (receivedFor at id (a .number)) (sym e))
-        (ap (λ (o : Option Rebuilt). messageIn s (x .out) (receivedFor at id (a .number) o)) e
+        (ap (λ (o : Option Rebuilt). messageIn s (x .left .out) (receivedFor at id (a .number) o)) e
         ∙ ap (λ (z : List ℕ). messageIn s z (receivedFor at id (a .number) (some w))) (laid-some out x a g w e)
         ∙ some-shown s out at id (a .number) w (b .some-out w e .1)
         ∙ ap outBytes (sym e))
@@ -101,7 +101,7 @@ rebuilt-of s at out x a id g b = go (a .out) refl
 pub first-of-store : FirstOfStore
 unfolding deliveredBy
 first-of-store s at rec room out second k i x p m hi hx hs =
-    rebuilt-of s at out (firstCall rec room out (record { id = i; number = 0; last = false; kind = k; expires = x }) second (part s (p .start) (p .len)))
+    rebuilt-of s at out (firstCall (lent rec room out) (record { id = i; number = 0; last = false; kind = k; expires = x }) second (part s (p .start) (p .len)))
     (step (length out) (stands rec room) (first i k x (part s (p .start) (p .len))) second) i
     (first-promise rec room out i k x second (part s (p .start) (p .len)) _ hi hx hs refl m)
     (step-sober (length out) (stands rec room) (first i k x (part s (p .start) (p .len))) second)
@@ -109,19 +109,19 @@ first-of-store s at rec room out second k i x p m hi hx hs =
 pub follow-of-store : FollowOfStore
 unfolding deliveredBy
 follow-of-store s at rec room out second n l i p m hi hs =
-    rebuilt-of s at out (followOnCall rec room out (record { id = i; number = n; last = l; kind = 0; expires = 0 }) second (part s (p .start) (p .len)))
+    rebuilt-of s at out (followOnCall (lent rec room out) (record { id = i; number = n; last = l; kind = 0; expires = 0 }) second (part s (p .start) (p .len)))
     (step (length out) (stands rec room) (follow i n l (part s (p .start) (p .len))) second) i
     (follow-promise rec room out i n l second (part s (p .start) (p .len)) _ hi hs refl m)
     (step-sober (length out) (stands rec room) (follow i n l (part s (p .start) (p .len))) second)
 
 -- a whole message is its block's part of the payload, and the store stays
 pub whole-shown : (s : List ℕ) (at : ℕ) (rec room out : List ℕ) (second k i x : ℕ) (p : Part)
-    → messageIn s (deliveredBy s at rec room out second (Body.I2np k i x p) .out) (deliveredBy s at rec room out second (Body.I2np k i x p) .received) ≡ part s (p .start) (p .len)
+    → messageIn s (deliveredBy s at (lent rec room out) second (Body.I2np k i x p) .left .out) (deliveredBy s at (lent rec room out) second (Body.I2np k i x p) .received) ≡ part s (p .start) (p .len)
 unfolding deliveredBy messageIn wholeAt
 whole-shown s at rec room out second k i x p = refl
 
 -- what is delivered at a place is what the block that is read there delivers
 pub read-delivers : (s : List ℕ) (at : ℕ) (rec room out : List ℕ) (second : ℕ) (b : Block) (size next : ℕ) → readAt s at ≡ Got.Block b size next
-    → delivered s at rec room out second (readAt s at) ≡ deliveredBy s at rec room out second b
+    → delivered s at (lent rec room out) second (readAt s at) ≡ deliveredBy s at (lent rec room out) second b
 unfolding delivered
-read-delivers s at rec room out second b size next e = ap (delivered s at rec room out second) e
+read-delivers s at rec room out second b size next e = ap (delivered s at (lent rec room out) second) e

@@ -15,7 +15,7 @@ use Rattle.blocks.specs.declared.Read.the-variants as Got
 use Rattle.blocks.specs.Reading.{readAt}
 use Rattle.blocks.proofs.Refused.{unread, read-numbers}
 use Rattle.reassembly.specs.declared.Reply.{Reply}
-use Rattle.reassembly.specs.Calls.{After, after, firstCall, followOnCall}
+use Rattle.reassembly.specs.Calls.{Lent, After, after, firstCall, followOnCall}
 use Rattle.reassembly.specs.Careful.{Careful}
 use Rattle.reassembly.proofs.Refusals.{careful-first, careful-follow-on}
 use Rattle.reassembly.proofs.Refused.{followOnNumbers, of-first, first-numbers, follow-on-numbers}
@@ -47,37 +47,37 @@ pub nothing-start : (n p : ℕ) → nothing n p .start ≡ p
 unfolding nothing
 nothing-start n p = refl
 
-module _ (s : List ℕ) (at : ℕ) (rec room out : List ℕ) (second : ℕ) where
+module _ (s : List ℕ) (at : ℕ) (x : Lent) (second : ℕ) where
   -- neither kept nor finished: the number, the block's place, and all is as it was
   abbrev Stays : Delivery → Type 0
-  Stays x = (x .received .number ≡ 0 → ⊥) → (x .received .number ≡ 60 → ⊥) → x ≡ deliveryWith (nothing (x .received .number) at) rec room out
+  Stays d = (d .received .number ≡ 0 → ⊥) → (d .received .number ≡ 60 → ⊥) → d ≡ deliveryWith (nothing (d .received .number) at) x
 
-  piece-stays : (x : After) (id : ℕ) → Careful rec room out x → Stays (rebuilt at x id)
+  piece-stays : (y : After) (id : ℕ) → Careful x y → Stays (rebuilt at y id)
   unfolding rebuilt
-  piece-stays x id c kept done = go (c .refusal)
+  piece-stays y id c kept done = go (c .refusal)
     where
-      n : rebuiltBy at (x .reply) id .number ≡ x .reply .number
-      n = number-is at (x .reply) id
+      n : rebuiltBy at (y .reply) id .number ≡ y .reply .number
+      n = number-is at (y .reply) id
 
-      is : rebuiltBy at (x .reply) id ≡ nothing (rebuiltBy at (x .reply) id .number) at
-      is = refusal-is at (x .reply) id (λ e. kept (n ∙ e)) (λ e. done (n ∙ e)) ∙ ap (λ (k : ℕ). nothing k at) (sym n)
+      is : rebuiltBy at (y .reply) id ≡ nothing (rebuiltBy at (y .reply) id .number) at
+      is = refusal-is at (y .reply) id (λ e. kept (n ∙ e)) (λ e. done (n ∙ e)) ∙ ap (λ (k : ℕ). nothing k at) (sym n)
 
-      go : ((x .reply .number ≡ 0) ⊎ ((x .reply .number ≡ 60) ⊎ (x ≡ after (x .reply) rec room out))) → rebuilt at x id ≡ deliveryWith (nothing (rebuiltBy at (x .reply) id .number) at) rec room out
+      go : ((y .reply .number ≡ 0) ⊎ ((y .reply .number ≡ 60) ⊎ (y ≡ after (y .reply) x))) → rebuilt at y id ≡ deliveryWith (nothing (rebuiltBy at (y .reply) id .number) at) x
       go (inl e) = absurd (kept (n ∙ e))
       go (inr (inl e)) = absurd (done (n ∙ e))
       go (inr (inr e)) =
-          ap (λ (y : After). deliveryWith (rebuiltBy at (x .reply) id) (y .rec) (y .room) (y .out)) e
-          ∙ ap (λ (r : Received). deliveryWith r rec room out) is
+          ap (λ (z : After). deliveryWith (rebuiltBy at (y .reply) id) (z .left)) e
+          ∙ ap (λ (r : Received). deliveryWith r x) is
 
-  block-stays : (b : Block) → Stays (deliveredBy s at rec room out second b)
+  block-stays : (b : Block) → Stays (deliveredBy s at x second b)
   unfolding deliveredBy wholeAt nothing
-  block-stays (Body.FirstFragment k i x p) =
-      piece-stays (firstCall rec room out (record { id = i; number = 0; last = false; kind = k; expires = x }) second (part s (p .start) (p .len))) i
-      (careful-first rec room out (record { id = i; number = 0; last = false; kind = k; expires = x }) second (part s (p .start) (p .len)))
+  block-stays (Body.FirstFragment k i e p) =
+      piece-stays (firstCall x (record { id = i; number = 0; last = false; kind = k; expires = e }) second (part s (p .start) (p .len))) i
+      (careful-first x (record { id = i; number = 0; last = false; kind = k; expires = e }) second (part s (p .start) (p .len)))
   block-stays (Body.FollowOnFragment n l i p) =
-      piece-stays (followOnCall rec room out (record { id = i; number = n; last = l; kind = 0; expires = 0 }) second (part s (p .start) (p .len))) i
-      (careful-follow-on rec room out (record { id = i; number = n; last = l; kind = 0; expires = 0 }) second (part s (p .start) (p .len)))
-  block-stays (Body.I2np k i x p) = λ kept done. absurd (kept refl)
+      piece-stays (followOnCall x (record { id = i; number = n; last = l; kind = 0; expires = 0 }) second (part s (p .start) (p .len))) i
+      (careful-follow-on x (record { id = i; number = n; last = l; kind = 0; expires = 0 }) second (part s (p .start) (p .len)))
+  block-stays (Body.I2np k i e p) = λ kept done. absurd (kept refl)
   block-stays (Body.DateTime t) = λ kept done. absurd (kept refl)
   block-stays (Body.Options a b c d e f g h) = λ kept done. absurd (kept refl)
   block-stays (Body.RouterInfo f g p) = λ kept done. absurd (kept refl)
@@ -86,7 +86,7 @@ module _ (s : List ℕ) (at : ℕ) (rec room out : List ℕ) (second : ℕ) wher
   block-stays (Body.Address o p) = λ kept done. absurd (kept refl)
   block-stays Body.RelayTagRequest = λ kept done. absurd (kept refl)
   block-stays (Body.RelayTag t) = λ kept done. absurd (kept refl)
-  block-stays (Body.NewToken x t) = λ kept done. absurd (kept refl)
+  block-stays (Body.NewToken e t) = λ kept done. absurd (kept refl)
   block-stays (Body.PathChallenge p) = λ kept done. absurd (kept refl)
   block-stays (Body.PathResponse p) = λ kept done. absurd (kept refl)
   block-stays (Body.FirstPacketNumber n) = λ kept done. absurd (kept refl)
@@ -94,13 +94,13 @@ module _ (s : List ℕ) (at : ℕ) (rec room out : List ℕ) (second : ℕ) wher
   block-stays (Body.Padding p) = λ kept done. absurd (kept refl)
   block-stays (Body.Opaque k p) = λ kept done. absurd (kept refl)
 
-  pub delivery-stays : Stays (delivered s at rec room out second (readAt s at))
+  pub delivery-stays : Stays (delivered s at x second (readAt s at))
   unfolding delivered nothing
   delivery-stays = go (readAt s at) refl
     where
-      go : (r : Read) → readAt s at ≡ r → Stays (delivered s at rec room out second r)
+      go : (r : Read) → readAt s at ≡ r → Stays (delivered s at x second r)
       go (Got.Block b z n) e = block-stays b
-      go (Got.Refused m p) e = λ kept done. ap (λ (q : ℕ). deliveryWith (nothing m q) rec room out) (read-numbers s at m p e .0)
+      go (Got.Refused m p) e = λ kept done. ap (λ (q : ℕ). deliveryWith (nothing m q) x) (read-numbers s at m p e .0)
 
 -- kept and finished, a block's refusals, a piece's
 abbrev pub deliveryNumbers : List ℕ
@@ -125,20 +125,20 @@ of-block n (inr (inr (inr (inr (inr (inr (inr (inr e)))))))) = inr (inr (inr (in
 none : OneOf deliveryNumbers 0
 none = of-piece 0 (inl refl)
 
-module _ (s : List ℕ) (at : ℕ) (rec room out : List ℕ) (second : ℕ) where
-  piece-numbers : (x : After) (id : ℕ) → OneOf followOnNumbers (x .reply .number) → OneOf deliveryNumbers (rebuilt at x id .received .number)
+module _ (s : List ℕ) (at : ℕ) (x : Lent) (second : ℕ) where
+  piece-numbers : (y : After) (id : ℕ) → OneOf followOnNumbers (y .reply .number) → OneOf deliveryNumbers (rebuilt at y id .received .number)
   unfolding rebuilt
-  piece-numbers x id e = of-piece _ (subst (OneOf followOnNumbers) (sym (number-is at (x .reply) id)) e)
+  piece-numbers y id e = of-piece _ (subst (OneOf followOnNumbers) (sym (number-is at (y .reply) id)) e)
 
-  block-numbers : (b : Block) → OneOf deliveryNumbers (deliveredBy s at rec room out second b .received .number)
+  block-numbers : (b : Block) → OneOf deliveryNumbers (deliveredBy s at x second b .received .number)
   unfolding deliveredBy wholeAt nothing
-  block-numbers (Body.FirstFragment k i x p) =
-      piece-numbers (firstCall rec room out (record { id = i; number = 0; last = false; kind = k; expires = x }) second (part s (p .start) (p .len))) i
-      (of-first _ (first-numbers rec room out (record { id = i; number = 0; last = false; kind = k; expires = x }) second (part s (p .start) (p .len))))
+  block-numbers (Body.FirstFragment k i e p) =
+      piece-numbers (firstCall x (record { id = i; number = 0; last = false; kind = k; expires = e }) second (part s (p .start) (p .len))) i
+      (of-first _ (first-numbers x (record { id = i; number = 0; last = false; kind = k; expires = e }) second (part s (p .start) (p .len))))
   block-numbers (Body.FollowOnFragment n l i p) =
-      piece-numbers (followOnCall rec room out (record { id = i; number = n; last = l; kind = 0; expires = 0 }) second (part s (p .start) (p .len))) i
-      (follow-on-numbers rec room out (record { id = i; number = n; last = l; kind = 0; expires = 0 }) second (part s (p .start) (p .len)))
-  block-numbers (Body.I2np k i x p) = none
+      piece-numbers (followOnCall x (record { id = i; number = n; last = l; kind = 0; expires = 0 }) second (part s (p .start) (p .len))) i
+      (follow-on-numbers x (record { id = i; number = n; last = l; kind = 0; expires = 0 }) second (part s (p .start) (p .len)))
+  block-numbers (Body.I2np k i e p) = none
   block-numbers (Body.DateTime t) = none
   block-numbers (Body.Options a b c d e f g h) = none
   block-numbers (Body.RouterInfo f g p) = none
@@ -147,7 +147,7 @@ module _ (s : List ℕ) (at : ℕ) (rec room out : List ℕ) (second : ℕ) wher
   block-numbers (Body.Address o p) = none
   block-numbers Body.RelayTagRequest = none
   block-numbers (Body.RelayTag t) = none
-  block-numbers (Body.NewToken x t) = none
+  block-numbers (Body.NewToken e t) = none
   block-numbers (Body.PathChallenge p) = none
   block-numbers (Body.PathResponse p) = none
   block-numbers (Body.FirstPacketNumber n) = none
@@ -155,10 +155,10 @@ module _ (s : List ℕ) (at : ℕ) (rec room out : List ℕ) (second : ℕ) wher
   block-numbers (Body.Padding p) = none
   block-numbers (Body.Opaque k p) = none
 
-  pub delivery-numbers : OneOf deliveryNumbers (delivered s at rec room out second (readAt s at) .received .number)
+  pub delivery-numbers : OneOf deliveryNumbers (delivered s at x second (readAt s at) .received .number)
   unfolding delivered nothing
   delivery-numbers = go (readAt s at) refl
     where
-      go : (r : Read) → readAt s at ≡ r → OneOf deliveryNumbers (delivered s at rec room out second r .received .number)
+      go : (r : Read) → readAt s at ≡ r → OneOf deliveryNumbers (delivered s at x second r .received .number)
       go (Got.Block b z n) e = block-numbers b
       go (Got.Refused m p) e = of-block m (read-numbers s at m p e .1)

@@ -10,18 +10,16 @@ use Rattle.blocks.specs.declared.Block.the-variants as Body
 use Rattle.blocks.specs.declared.Read.{Read}
 use Rattle.blocks.specs.declared.Read.the-variants as Got
 use Rattle.reassembly.specs.declared.Reply.{Reply}
-use Rattle.reassembly.specs.Calls.{After, firstCall, followOnCall}
+use Rattle.reassembly.specs.Calls.{Lent, After, firstCall, followOnCall}
 use Rattle.messages.specs.declared.Received.{Received}
 
--- What a call leaves: what was received, and the record, the room and the assembly buffer.
+-- What a call leaves: what was received, and what became of the bytes that it was lent.
 pub record Delivery : Type 0 where
   pub received : Received
-  pub rec : List ℕ
-  pub room : List ℕ
-  pub out : List ℕ
+  pub left : Lent
 
-abbrev pub deliveryWith : Received → List ℕ → List ℕ → List ℕ → Delivery
-deliveryWith r rec room out = record { received = r; rec = rec; room = room; out = out }
+abbrev pub deliveryWith : Received → Lent → Delivery
+deliveryWith r x = record { received = r; left = x }
 
 -- a number, the place of a refused block, and no message
 unfoldable pub nothing : ℕ → ℕ → Received
@@ -40,35 +38,35 @@ rebuiltBy at r id =
 
 -- what the store's call for a piece left
 unfoldable pub rebuilt : ℕ → After → ℕ → Delivery
-rebuilt at x id = deliveryWith (rebuiltBy at (x .reply) id) (x .rec) (x .room) (x .out)
+rebuilt at y id = deliveryWith (rebuiltBy at (y .reply) id) (y .left)
 
--- a block that was read at a place
-unfoldable pub deliveredBy : List ℕ → ℕ → List ℕ → List ℕ → List ℕ → ℕ → Block → Delivery
-deliveredBy s at rec room out second (Body.I2np k i x p) = deliveryWith (wholeAt k i x p) rec room out
-deliveredBy s at rec room out second (Body.FirstFragment k i x p) =
-    rebuilt at (firstCall rec room out (record { id = i; number = 0; last = false; kind = k; expires = x }) second (part s (p .start) (p .len))) i
-deliveredBy s at rec room out second (Body.FollowOnFragment n l i p) =
-    rebuilt at (followOnCall rec room out (record { id = i; number = n; last = l; kind = 0; expires = 0 }) second (part s (p .start) (p .len))) i
-deliveredBy s at rec room out second (Body.DateTime t) = deliveryWith (nothing 0 0) rec room out
-deliveredBy s at rec room out second (Body.Options a b c d e f g h) = deliveryWith (nothing 0 0) rec room out
-deliveredBy s at rec room out second (Body.RouterInfo f g p) = deliveryWith (nothing 0 0) rec room out
-deliveredBy s at rec room out second (Body.Termination n r) = deliveryWith (nothing 0 0) rec room out
-deliveredBy s at rec room out second (Body.Ack t n p) = deliveryWith (nothing 0 0) rec room out
-deliveredBy s at rec room out second (Body.Address o p) = deliveryWith (nothing 0 0) rec room out
-deliveredBy s at rec room out second Body.RelayTagRequest = deliveryWith (nothing 0 0) rec room out
-deliveredBy s at rec room out second (Body.RelayTag t) = deliveryWith (nothing 0 0) rec room out
-deliveredBy s at rec room out second (Body.NewToken x t) = deliveryWith (nothing 0 0) rec room out
-deliveredBy s at rec room out second (Body.PathChallenge p) = deliveryWith (nothing 0 0) rec room out
-deliveredBy s at rec room out second (Body.PathResponse p) = deliveryWith (nothing 0 0) rec room out
-deliveredBy s at rec room out second (Body.FirstPacketNumber n) = deliveryWith (nothing 0 0) rec room out
-deliveredBy s at rec room out second (Body.Congestion f) = deliveryWith (nothing 0 0) rec room out
-deliveredBy s at rec room out second (Body.Padding p) = deliveryWith (nothing 0 0) rec room out
-deliveredBy s at rec room out second (Body.Opaque k p) = deliveryWith (nothing 0 0) rec room out
+-- a block that was read at a place of a payload
+unfoldable pub deliveredBy : List ℕ → ℕ → Lent → ℕ → Block → Delivery
+deliveredBy s at x second (Body.I2np k i e p) = deliveryWith (wholeAt k i e p) x
+deliveredBy s at x second (Body.FirstFragment k i e p) =
+    rebuilt at (firstCall x (record { id = i; number = 0; last = false; kind = k; expires = e }) second (part s (p .start) (p .len))) i
+deliveredBy s at x second (Body.FollowOnFragment n l i p) =
+    rebuilt at (followOnCall x (record { id = i; number = n; last = l; kind = 0; expires = 0 }) second (part s (p .start) (p .len))) i
+deliveredBy s at x second (Body.DateTime t) = deliveryWith (nothing 0 0) x
+deliveredBy s at x second (Body.Options a b c d e f g h) = deliveryWith (nothing 0 0) x
+deliveredBy s at x second (Body.RouterInfo f g p) = deliveryWith (nothing 0 0) x
+deliveredBy s at x second (Body.Termination n r) = deliveryWith (nothing 0 0) x
+deliveredBy s at x second (Body.Ack t n p) = deliveryWith (nothing 0 0) x
+deliveredBy s at x second (Body.Address o p) = deliveryWith (nothing 0 0) x
+deliveredBy s at x second Body.RelayTagRequest = deliveryWith (nothing 0 0) x
+deliveredBy s at x second (Body.RelayTag t) = deliveryWith (nothing 0 0) x
+deliveredBy s at x second (Body.NewToken e t) = deliveryWith (nothing 0 0) x
+deliveredBy s at x second (Body.PathChallenge p) = deliveryWith (nothing 0 0) x
+deliveredBy s at x second (Body.PathResponse p) = deliveryWith (nothing 0 0) x
+deliveredBy s at x second (Body.FirstPacketNumber n) = deliveryWith (nothing 0 0) x
+deliveredBy s at x second (Body.Congestion f) = deliveryWith (nothing 0 0) x
+deliveredBy s at x second (Body.Padding p) = deliveryWith (nothing 0 0) x
+deliveredBy s at x second (Body.Opaque k p) = deliveryWith (nothing 0 0) x
 
 -- a block, or its refusal
-unfoldable pub delivered : List ℕ → ℕ → List ℕ → List ℕ → List ℕ → ℕ → Read → Delivery
-delivered s at rec room out second (Got.Block b size next) = deliveredBy s at rec room out second b
-delivered s at rec room out second (Got.Refused number place) = deliveryWith (nothing number place) rec room out
+unfoldable pub delivered : List ℕ → ℕ → Lent → ℕ → Read → Delivery
+delivered s at x second (Got.Block b size next) = deliveredBy s at x second b
+delivered s at x second (Got.Refused number place) = deliveryWith (nothing number place) x
 
 -- the bytes of the message that was received; none where none was
 unfoldable pub messageIn : List ℕ → List ℕ → Received → List ℕ

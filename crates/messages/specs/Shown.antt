@@ -10,6 +10,7 @@ use Rattle.wire.specs.Parts.{part}
 use Rattle.blocks.specs.declared.Part.{Part}
 use Rattle.blocks.specs.declared.Block.the-variants as Body
 use Rattle.reassembly.specs.Store.{first, follow, Rebuilt, Answer, step}
+use Rattle.reassembly.specs.Calls.{lent}
 use Rattle.reassembly.specs.Stands.{stands, Made, laidOut}
 use Rattle.messages.specs.declared.Received.{Received}
 use Rattle.messages.specs.Delivery.{Delivery, nothing, deliveredBy, messageIn}
@@ -27,18 +28,18 @@ receivedFor at id n (some w) = record { number = n; from = 2; kind = w .kind; id
 -- what a fragment's block at a place left of a payload and an assembly buffer is the store's answer to its piece
 pub record OfStore (s : List ℕ) (at id : ℕ) (out : List ℕ) (x : Delivery) (a : Answer) : Type 0 where
   pub received : x .received ≡ receivedFor at id (a .number) (a .out)
-  pub buffer : x .out ≡ laidOut out (a .out)
+  pub buffer : x .left .out ≡ laidOut out (a .out)
   pub number : x .received .number ≡ a .number
-  pub message : messageIn s (x .out) (x .received) ≡ outBytes (a .out)
-  pub store : stands (x .rec) (x .room) ≡ a .store
-  pub made : Made (x .rec) (x .room)
+  pub message : messageIn s (x .left .out) (x .received) ≡ outBytes (a .out)
+  pub store : stands (x .left .rec) (x .left .room) ≡ a .store
+  pub made : Made (x .left .rec) (x .left .room)
 
 abbrev pub FirstOfStore : Type 0
 FirstOfStore =
     (s : List ℕ) (at : ℕ) (rec room out : List ℕ) (second k i x : ℕ) (p : Part) → Made rec room → i < 4294967296 → x < 4294967296 → second < 18446744073709551616
-    → OfStore s at i out (deliveredBy s at rec room out second (Body.FirstFragment k i x p)) (step (length out) (stands rec room) (first i k x (part s (p .start) (p .len))) second)
+    → OfStore s at i out (deliveredBy s at (lent rec room out) second (Body.FirstFragment k i x p)) (step (length out) (stands rec room) (first i k x (part s (p .start) (p .len))) second)
 
 abbrev pub FollowOfStore : Type 0
 FollowOfStore =
     (s : List ℕ) (at : ℕ) (rec room out : List ℕ) (second n : ℕ) (l : Bool) (i : ℕ) (p : Part) → Made rec room → i < 4294967296 → second < 18446744073709551616
-    → OfStore s at i out (deliveredBy s at rec room out second (Body.FollowOnFragment n l i p)) (step (length out) (stands rec room) (follow i n l (part s (p .start) (p .len))) second)
+    → OfStore s at i out (deliveredBy s at (lent rec room out) second (Body.FollowOnFragment n l i p)) (step (length out) (stands rec room) (follow i n l (part s (p .start) (p .len))) second)

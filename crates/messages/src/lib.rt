@@ -7,6 +7,7 @@ ghost use mathlib.Core.Path.{_≡_};
 ghost use Rattle.wire.specs.Parts.{part};
 ghost use Rattle.blocks.specs.Reading.{readAt};
 ghost use Rattle.messages.specs.Delivery.{deliveryWith, nothing, wholeAt, rebuiltBy, deliveredBy, delivered, messageIn};
+ghost use Rattle.reassembly.specs.Calls.{lent};
 
 // A call's answer: 01's number, and where a message that was received stands: 0 nowhere, 1 in the payload, 2 in the assembly buffer.
 #[repr(C)]
@@ -93,7 +94,7 @@ fn deliver(
     out: &mut [u8],
     second: u64,
 ) -> Received
-    ensures { λ r. ⌜ deliveryWith r (now (rec .exit)) (now (room .exit)) (now (out .exit)) ≡ deliveredBy (now (payload .entry)) at (now (rec .entry)) (now (room .entry)) (now (out .entry)) second block ⌝ }
+    ensures { λ r. ⌜ deliveryWith r (lent (now (rec .exit)) (now (room .exit)) (now (out .exit))) ≡ deliveredBy (now (payload .entry)) at (lent (now (rec .entry)) (now (room .entry)) (now (out .entry))) second block ⌝ }
 {
     match block {
         Block::I2np {
@@ -109,7 +110,16 @@ fn deliver(
             bytes,
         } => {
             let piece = shown(payload, bytes.start, bytes.len);
-            let r = reassembly_store::first_fragment(rec, room, out, id, kind, expiration, second, piece);
+            let r = reassembly_store::first_fragment(
+                rec,
+                room,
+                out,
+                id,
+                kind,
+                expiration,
+                second,
+                piece,
+            );
             rebuilt_by(at, r, id)
         }
         Block::FollowOnFragment {
@@ -119,7 +129,16 @@ fn deliver(
             bytes,
         } => {
             let piece = shown(payload, bytes.start, bytes.len);
-            let r = reassembly_store::follow_on_fragment(rec, room, out, id, number, last, second, piece);
+            let r = reassembly_store::follow_on_fragment(
+                rec,
+                room,
+                out,
+                id,
+                number,
+                last,
+                second,
+                piece,
+            );
             rebuilt_by(at, r, id)
         }
         _ => nothing(0, 0),
@@ -135,7 +154,7 @@ pub fn receive(
     out: &mut [u8],
     second: u64,
 ) -> Received
-    ensures { λ r. ⌜ deliveryWith r (now (rec .exit)) (now (room .exit)) (now (out .exit)) ≡ delivered (now (payload .entry)) at (now (rec .entry)) (now (room .entry)) (now (out .entry)) second (readAt (now (payload .entry)) at) ⌝ }
+    ensures { λ r. ⌜ deliveryWith r (lent (now (rec .exit)) (now (room .exit)) (now (out .exit))) ≡ delivered (now (payload .entry)) at (lent (now (rec .entry)) (now (room .entry)) (now (out .entry))) second (readAt (now (payload .entry)) at) ⌝ }
 {
     match blocks_reader::read_block(payload, at) {
         Read::Block {

@@ -50,19 +50,19 @@ pub numbers-shown : (f : Fields) → isListed (f .kind) ≡ true → kindNumbers
 numbers-shown f e = numbers-of (headerOf f) ∙ ap numbersOf (fields-shown f e)
 
 -- numbers that can be passed are fields within their widths
-pub passable-fits : (n : List ℕ) → NumbersInWidth n → LongInWidth (fieldsFrom n)
-passable-fits n p = record { destination = p .destination; number = p .number; source = p .source; token = p .token }
+pub in-width-long : (n : List ℕ) → NumbersInWidth n → LongInWidth (fieldsFrom n)
+in-width-long n p = record { destination = p .destination; number = p .number; source = p .source; token = p .token }
 
-flag-passable : (f : Fields) → cond (f .immediate) 1 0 < 2 ^ 8
-flag-passable f = go (f .immediate)
+flag-in-width : (f : Fields) → cond (f .immediate) 1 0 < 2 ^ 8
+flag-in-width f = go (f .immediate)
   where
     go : (a : Bool) → cond a 1 0 < 2 ^ 8
     go true = omega arith
     go false = omega arith
 
 -- and the numbers of a header whose fields are within theirs can be passed
-pub kind-passable : (k : HeaderKind) → LongInWidth (headerFields k) → BytesInWidth (headerFields k) → NumbersInWidth (kindNumbers k)
-kind-passable k w b =
+pub kind-in-width : (k : HeaderKind) → LongInWidth (headerFields k) → BytesInWidth (headerFields k) → NumbersInWidth (kindNumbers k)
+kind-in-width k w b =
     rw (numbers-of k)
     (record {
       kind = b .kind;
@@ -70,7 +70,7 @@ kind-passable k w b =
       network = b .network;
       fragment = b .fragment;
       count = b .count;
-      immediate = flag-passable (headerFields k);
+      immediate = flag-in-width (headerFields k);
       number = w .number;
       destination = w .destination;
       source = w .source;

@@ -3,22 +3,20 @@ use mathlib.Core.Path.{_≡_, refl, ap, _∙_}
 use mathlib.Core.List.{List, [], _∷_}
 use Prim.Native.Nat.{ℕ}
 use borrow.Author.Tests.{ne-eqb}
+use Rattle.reassembly.specs.Calls.{Lent}
 use Rattle.messages.specs.declared.Received.{Received}
 use Rattle.messages.specs.Delivery.{Delivery, deliveryWith}
 use Rattle.numbers_outcomes.specs.declared.Outcome.{Outcome}
 use Rattle.numbers_outcomes.specs.Outcomes.{outcome}
-use Rattle.numbers_outcomes.specs.Deliveries.{deliveryOutcome, deliveryNumbers}
+use Rattle.numbers_outcomes.specs.Deliveries.{deliveryOutcome, deliveryNumbers, deliveredAt, Told, toldWith, toldBy, deliverCall}
 
--- what is left, part by part
-pub told-of : (r : Received) (rec room out told told′ : List ℕ) (o : Outcome) (x : Delivery) → deliveryWith r rec room out ≡ x → o ≡ deliveryOutcome r → told′ ≡ deliveryNumbers r told
-    → (o ≡ deliveryOutcome (x .received)) × (rec ≡ x .rec) × (room ≡ x .room) × (out ≡ x .out) × (told′ ≡ deliveryNumbers (x .received) told)
-told-of r rec room out told told′ o x e eo et = (
-  eo ∙ ap (λ (y : Delivery). deliveryOutcome (y .received)) e,
-  ap (λ (y : Delivery). y .rec) e,
-  ap (λ (y : Delivery). y .room) e,
-  ap (λ (y : Delivery). y .out) e,
-  et ∙ ap (λ (y : Delivery). deliveryNumbers (y .received) told) e,
-)
+-- the call, from what was received, what is told of it, and what is left
+pub call-told : (s : List ℕ) (at : ℕ) (x y : Lent) (second : ℕ) (told told′ : List ℕ) (r : Received) (o : Outcome)
+    → deliveryWith r y ≡ deliveredAt s at x second → o ≡ deliveryOutcome r → told′ ≡ deliveryNumbers r told
+    → toldWith o told′ y ≡ deliverCall s at x second told
+unfolding deliverCall
+call-told s at x y second told told′ r o e eo et =
+    (λ i. toldWith (eo i) (et i) y) ∙ ap (λ (d : Delivery). toldBy d told) e
 
 -- a number, a place and no message: kept, or refused at the place
 abbrev empty-handed : ℕ → ℕ → Received

@@ -21,8 +21,8 @@ use Rattle.messages.specs.declared.Received.{Received}
 use Rattle.numbers.specs.BlockNumbers.{readNumbers}
 use Rattle.numbers.specs.BlockFields.{writingBy, roomBy}
 use Rattle.numbers.proofs.Refused as Numbers
-use Rattle.numbers_outcomes.specs.Outcomes.{listOutcome, writeOutcome, readOutcome}
-use Rattle.numbers_outcomes.specs.Listings.{listOutcome as listed}
+use Rattle.numbers_outcomes.specs.Outcomes.{outcome, writeOutcome, readOutcome}
+use Rattle.numbers_outcomes.specs.Listings.{listOutcome}
 use Rattle.numbers_outcomes.specs.Trackers.{newAnswer, newRecord, reportNumbers, reportPairs}
 use Rattle.numbers_outcomes.specs.Deliveries.{isRefused, deliveryOutcome, deliveryNumbers}
 
@@ -38,8 +38,8 @@ room-stays kind f bytes room = go (writingBy kind f bytes (length room)) refl
     go (Wrote.Length n) e h = absurd (h refl)
     go (Wrote.Refused m) e h = Numbers.room-stays kind f bytes room m e
 
-pub list-stays : (x : Listing) (l : List Entry) → (listed (listingAnswer x) .number ≡ 0 → ⊥) → entriesAfter x l ≡ l
-unfolding listed
+pub list-stays : (x : Listing) (l : List Entry) → (listOutcome (listingAnswer x) .number ≡ 0 → ⊥) → entriesAfter x l ≡ l
+unfolding listOutcome
 list-stays (ok es) l h = absurd (h refl)
 list-stays (no m p) l h = refl
 
@@ -67,7 +67,7 @@ pub delivery-number : (r : Received) → deliveryOutcome r .number ≡ r .number
 unfolding deliveryOutcome
 delivery-number r = go (isRefused r)
   where
-    go : (b : Bool) → cond b (listOutcome (r .number) (r .start)) (listOutcome (r .number) 0) .number ≡ r .number
+    go : (b : Bool) → cond b (outcome (r .number) (r .start)) (outcome (r .number) 0) .number ≡ r .number
     go true = refl
     go false = refl
 

@@ -4,6 +4,7 @@ use mathlib.Core.List.{List, [], _∷_}
 use Prim.Native.Nat.{ℕ}
 use lib.Dec.{eqb}
 use Rattle.blocks.specs.Reading.{readAt}
+use Rattle.reassembly.specs.Calls.{Lent}
 use Rattle.messages.specs.declared.Received.{Received}
 use Rattle.messages.specs.Delivery.{Delivery, delivered}
 use Rattle.numbers_outcomes.specs.declared.Outcome.{Outcome}
@@ -22,5 +23,22 @@ unfoldable pub deliveryNumbers : Received → List ℕ → List ℕ
 deliveryNumbers r told = cond (isRefused r) told (r .from ∷ r .kind ∷ r .id ∷ r .expires ∷ r .start ∷ r .length ∷ [])
 
 -- what the block at a place of a payload delivers, and leaves
-abbrev pub deliveredAt : List ℕ → ℕ → List ℕ → List ℕ → List ℕ → ℕ → Delivery
-deliveredAt s at rec room out second = delivered s at rec room out second (readAt s at)
+abbrev pub deliveredAt : List ℕ → ℕ → Lent → ℕ → Delivery
+deliveredAt s at x second = delivered s at x second (readAt s at)
+
+-- What strawhub_block_deliver leaves: its outcome, its six numbers, and what became of the bytes that it was lent.
+pub record Told : Type 0 where
+  pub outcome : Outcome
+  pub told : List ℕ
+  pub left : Lent
+
+abbrev pub toldWith : Outcome → List ℕ → Lent → Told
+toldWith o told x = record { outcome = o; told = told; left = x }
+
+-- a delivery as the call tells it
+abbrev pub toldBy : Delivery → List ℕ → Told
+toldBy d told = toldWith (deliveryOutcome (d .received)) (deliveryNumbers (d .received) told) (d .left)
+
+-- strawhub_block_deliver: the block at a place of a payload is delivered, and told
+unfoldable pub deliverCall : List ℕ → ℕ → Lent → ℕ → List ℕ → Told
+deliverCall s at x second told = toldBy (deliveredAt s at x second) told

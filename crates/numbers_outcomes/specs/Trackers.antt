@@ -5,16 +5,16 @@ use Prim.Native.Nat.{ℕ}
 use lib.Dec.{eqb}
 use lib.ListN.{replicate}
 use Rattle.wire.specs.Parts.{splice}
-use Rattle.acks.specs.Recorded.{trackerShort}
+use Rattle.acks.specs.Recorded.{trackerSize, trackerShort}
 use Rattle.acks.specs.declared.AckInfo.{AckInfo}
 
 -- 59 where the record is short
 unfoldable pub newAnswer : List ℕ → ℕ
 newAnswer r = cond (trackerShort r) 59 0
 
--- 259 zeros in front of it, or as it was
+-- zeros in front of it, as many as a record has bytes; or as it was
 unfoldable pub newRecord : List ℕ → List ℕ
-newRecord r = cond (trackerShort r) r (splice r 0 (replicate 259 0))
+newRecord r = cond (trackerShort r) r (splice r 0 (replicate trackerSize 0))
 
 -- through, count and the count of pair bytes; refused, as they were
 unfoldable pub reportNumbers : AckInfo → List ℕ → List ℕ

@@ -10,7 +10,7 @@ use Rattle.header.proofs.Refused as Header
 use Rattle.blocks.proofs.Refused as Blocks
 use Rattle.blocks_listing.proofs.Refused as Listing
 use Rattle.acks.proofs.Refused as Acks
-use Rattle.reassembly.specs.Calls.{After, after, firstCall, followOnCall}
+use Rattle.reassembly.specs.Calls.{Lent, After, after, firstCall, followOnCall}
 use Rattle.reassembly.specs.Careful.{Careful}
 use Rattle.reassembly.proofs.Refusals.{careful-first, careful-follow-on}
 use Rattle.reassembly.proofs.Refused as Store
@@ -24,10 +24,10 @@ others k ks n h (inr (inl e)) = absurd (h .1 e)
 others k ks n h (inr (inr e)) = e
 
 -- a careful call that refuses left everything
-stays : (rec room out : List ℕ) (x : After) → Careful rec room out x → StoreRefuses (x .reply .number) → x ≡ after (x .reply) rec room out
-stays rec room out x c h = go (c .refusal)
+stays : (x : Lent) (y : After) → Careful x y → StoreRefuses (y .reply .number) → y ≡ after (y .reply) x
+stays x y c h = go (c .refusal)
   where
-    go : ((x .reply .number ≡ 0) ⊎ ((x .reply .number ≡ 60) ⊎ (x ≡ after (x .reply) rec room out))) → x ≡ after (x .reply) rec room out
+    go : ((y .reply .number ≡ 0) ⊎ ((y .reply .number ≡ 60) ⊎ (y ≡ after (y .reply) x))) → y ≡ after (y .reply) x
     go (inl e) = absurd (h .0 e)
     go (inr (inl e)) = absurd (h .1 e)
     go (inr (inr e)) = e
@@ -46,16 +46,16 @@ demand1 =
       ack-written = (Acks.ack-numbers, Acks.ack-leaves);
       ack-expanded = λ through count pairs list h. (Acks.expand-numbers through count pairs (length list) h, Acks.expand-leaves through count pairs list h);
       store-renewed = λ rec h. (Store.renew-numbers rec h, Store.renew-leaves rec h);
-      first-taken = λ rec room out l second v h. (
-        others 50 (52 ∷ 53 ∷ 54 ∷ 55 ∷ 56 ∷ 59 ∷ []) _ h (Store.first-numbers rec room out l second v),
-        stays rec room out (firstCall rec room out l second v) (careful-first rec room out l second v) h,
+      first-taken = λ x l second v h. (
+        others 50 (52 ∷ 53 ∷ 54 ∷ 55 ∷ 56 ∷ 59 ∷ []) _ h (Store.first-numbers x l second v),
+        stays x (firstCall x l second v) (careful-first x l second v) h,
       );
-      follow-on-taken = λ rec room out l second v h. (
-        others 50 (51 ∷ 52 ∷ 53 ∷ 54 ∷ 55 ∷ 56 ∷ 59 ∷ []) _ h (Store.follow-on-numbers rec room out l second v),
-        stays rec room out (followOnCall rec room out l second v) (careful-follow-on rec room out l second v) h,
+      follow-on-taken = λ x l second v h. (
+        others 50 (51 ∷ 52 ∷ 53 ∷ 54 ∷ 55 ∷ 56 ∷ 59 ∷ []) _ h (Store.follow-on-numbers x l second v),
+        stays x (followOnCall x l second v) (careful-follow-on x l second v) h,
       );
-      delivery = λ s at rec room out second h. (
-        others 1 (2 ∷ 3 ∷ 4 ∷ 5 ∷ 6 ∷ 7 ∷ 8 ∷ 9 ∷ 50 ∷ 51 ∷ 52 ∷ 53 ∷ 54 ∷ 55 ∷ 56 ∷ 59 ∷ []) _ h (Messages.delivery-numbers s at rec room out second),
-        Messages.delivery-stays s at rec room out second (h .0) (h .1),
+      delivery = λ s at x second h. (
+        others 1 (2 ∷ 3 ∷ 4 ∷ 5 ∷ 6 ∷ 7 ∷ 8 ∷ 9 ∷ 50 ∷ 51 ∷ 52 ∷ 53 ∷ 54 ∷ 55 ∷ 56 ∷ 59 ∷ []) _ h (Messages.delivery-numbers s at x second),
+        Messages.delivery-stays s at x second (h .0) (h .1),
       );
     }

@@ -10,7 +10,7 @@ use Rattle.wire.specs.Numbers.{Bytes, little, littleAt, big, bigAt}
 use Rattle.header.specs.declared.Fields.{Fields}
 use Rattle.header.specs.declared.Answer.the-variants as Header
 use Rattle.header.specs.Kinds.{isListed}
-use Rattle.header.specs.Reading.{readNumber, registerAnswer, packetAfterRead}
+use Rattle.header.specs.Reading.{readNumber, headerAnswer, packetAfterRead}
 use Rattle.header.specs.Writing.{writeNumber, packetAfterWrite}
 use Rattle.blocks.specs.declared.Block.the-variants as Body
 use Rattle.blocks.specs.declared.Read.the-variants as Got
@@ -20,7 +20,7 @@ use Rattle.blocks.specs.Reading.{readAt}
 use Rattle.blocks_listing.specs.declared.Entry.{Entry}
 use Rattle.blocks_listing.specs.Listing.{no, entry, blocksFrom, blocksOf, listing, entriesAfter}
 use Rattle.blocks.specs.Writing.{faulty, writing, roomAfter}
-use Rattle.acks.specs.Tracking.{fresh, mark, registerAnswer as trackerAnswer, registerOf}
+use Rattle.acks.specs.Tracking.{fresh, mark, registerAnswer, registerOf}
 use Rattle.acks.specs.History.{answerTo}
 use Rattle.acks.specs.Reporting.{refusedReport, reportOf, ackInfo}
 use Rattle.acks.specs.Recorded.{trackerShort, trackerAt, registerThere, recordAfter, reportThere}
@@ -29,7 +29,7 @@ use Rattle.acks.specs.Runs.{wholePairs, runSum}
 use Rattle.acks.specs.Expanding.{expandAnswer, expandOf, listAfter}
 use Rattle.acks.proofs.Cases.{case-j}
 use Rattle.reassembly.specs.declared.Label.{Label}
-use Rattle.reassembly.specs.Calls.{After, after, bare, lentShort, badSize, offNumber, firstCall, followOnCall, renewal, renewed}
+use Rattle.reassembly.specs.Calls.{lent, After, after, bare, lentShort, badSize, offNumber, firstCall, followOnCall, renewal, renewed}
 use Rattle.reassembly.proofs.Branches.{first-50, follow-51}
 use Rattle.messages.specs.Delivery.{deliveryWith, nothing, delivered}
 use Rattle.promises.specs.Demand1.{StoreRefuses}
@@ -43,8 +43,8 @@ store-refusal n k e h = (λ z. omega arith, λ z. omega arith)
 abbrev three : List ℕ
 three = 1 ∷ 2 ∷ 3 ∷ []
 
-pub no-packet : registerAnswer three three three ≡ Header.Refused 20
-unfolding registerAnswer readNumber
+pub no-packet : headerAnswer three three three ≡ Header.Refused 20
+unfolding headerAnswer readNumber
 no-packet = refl
 
 pub packet-stays : packetAfterRead three three three ≡ three
@@ -104,7 +104,7 @@ zeros (suc n) zero = omega arith
 zeros (suc n) (suc i) = zeros n i
 
 pub too-high : registerThere (replicate 259 0) 256 ≡ 40
-unfolding registerThere trackerShort registerOf trackerAnswer answerTo trackerAt littleAt little part
+unfolding registerThere trackerShort registerOf registerAnswer answerTo trackerAt littleAt little part
 too-high = refl
 
 pub record-stays : recordAfter (replicate 259 0) 256 ≡ replicate 259 0
@@ -143,30 +143,30 @@ module _ (rec room out : List ℕ) (long : lentShort rec room ≡ false) (second
   abbrev label : Label
   label = record { id = 1; number = 0; last = false; kind = 20; expires = 9 }
 
-  pub no-bytes : firstCall rec room out label second [] .reply .number ≡ 50
+  pub no-bytes : firstCall (lent rec room out) label second [] .reply .number ≡ 50
   unfolding badSize bare
   no-bytes = sym (ap (λ (x : After). x .reply .number) (first-50 rec room out label second [] (bare 50) long refl refl))
 
-  pub first-stays : firstCall rec room out label second [] ≡ after (firstCall rec room out label second [] .reply) rec room out
+  pub first-stays : firstCall (lent rec room out) label second [] ≡ after (firstCall (lent rec room out) label second [] .reply) (lent rec room out)
   first-stays =
-      demand1 .first-taken rec room out label second []
-      (store-refusal (firstCall rec room out label second [] .reply .number) 49 no-bytes (omega arith)) .1
+      demand1 .first-taken (lent rec room out) label second []
+      (store-refusal (firstCall (lent rec room out) label second [] .reply .number) 49 no-bytes (omega arith)) .1
 
-  pub no-number : followOnCall rec room out label second (7 ∷ []) .reply .number ≡ 51
+  pub no-number : followOnCall (lent rec room out) label second (7 ∷ []) .reply .number ≡ 51
   unfolding badSize offNumber bare
   no-number = sym (ap (λ (x : After). x .reply .number) (follow-51 rec room out label second (7 ∷ []) (bare 51) long refl refl refl))
 
-  pub follow-on-stays : followOnCall rec room out label second (7 ∷ []) ≡ after (followOnCall rec room out label second (7 ∷ []) .reply) rec room out
+  pub follow-on-stays : followOnCall (lent rec room out) label second (7 ∷ []) ≡ after (followOnCall (lent rec room out) label second (7 ∷ []) .reply) (lent rec room out)
   follow-on-stays =
-      demand1 .follow-on-taken rec room out label second (7 ∷ [])
-      (store-refusal (followOnCall rec room out label second (7 ∷ []) .reply .number) 50 no-number (omega arith)) .1
+      demand1 .follow-on-taken (lent rec room out) label second (7 ∷ [])
+      (store-refusal (followOnCall (lent rec room out) label second (7 ∷ []) .reply .number) 50 no-number (omega arith)) .1
 
   -- (d), delivered
-  pub no-delivery : delivered bad-address 0 rec room out second (readAt bad-address 0) .received .number ≡ 8
+  pub no-delivery : delivered bad-address 0 (lent rec room out) second (readAt bad-address 0) .received .number ≡ 8
   unfolding delivered nothing readAt extentAt takenAt address bigAt big little part
   no-delivery = refl
 
-  pub delivery-stays : delivered bad-address 0 rec room out second (readAt bad-address 0) ≡ deliveryWith (nothing (delivered bad-address 0 rec room out second (readAt bad-address 0) .received .number) 0) rec room out
+  pub delivery-stays : delivered bad-address 0 (lent rec room out) second (readAt bad-address 0) ≡ deliveryWith (nothing (delivered bad-address 0 (lent rec room out) second (readAt bad-address 0) .received .number) 0) (lent rec room out)
   delivery-stays =
-      demand1 .delivery bad-address 0 rec room out second
-      (store-refusal (delivered bad-address 0 rec room out second (readAt bad-address 0) .received .number) 7 no-delivery (omega arith)) .1
+      demand1 .delivery bad-address 0 (lent rec room out) second
+      (store-refusal (delivered bad-address 0 (lent rec room out) second (readAt bad-address 0) .received .number) 7 no-delivery (omega arith)) .1

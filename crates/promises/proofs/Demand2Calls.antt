@@ -57,8 +57,8 @@ module _ (calls : List ℕ) (r : AckInfo) (f : Faithful (highestSeen calls) (amo
       let l = report-lent r out pairs (f .number-is) in
       record {
         given = f .number-is;
-        lent = l .0 ∙ ap (λ (n : ℕ). n ∷ r .count ∷ r .len ∷ []) (f .through-is);
-        narrow = (small, omega (arith, f .adds-up), omega (arith, f .few, f .sized));
+        numbers = l .0 ∙ ap (λ (n : ℕ). n ∷ r .count ∷ r .len ∷ []) (f .through-is);
+        in-width = (small, omega (arith, f .adds-up), omega (arith, f .few, f .sized));
         exact = names (take (r .len) (reportPairs r pairs)) list (ap (take (r .len)) (l .1) ∙ pairs-cut r) long;
       }
 

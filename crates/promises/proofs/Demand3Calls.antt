@@ -6,9 +6,9 @@ use native.Mathlib.Omega.{arith}
 use lib.Dec.{eqb}
 use lib.ListN.{length, getD}
 use Rattle.reassembly.specs.Store.{Piece, first, follow, Store, step}
-use Rattle.reassembly.specs.Calls.{renewed}
+use Rattle.reassembly.specs.Calls.{lent, renewed}
 use Rattle.reassembly.specs.Stands.{stands, Made, Agrees, laidOut}
-use Rattle.reassembly.proofs.Steps.{Fits, first-agrees, follow-agrees}
+use Rattle.reassembly.proofs.Steps.{PieceInWidth, first-agrees, follow-agrees}
 use Rattle.reassembly.proofs.Stores.{step-enough}
 use Rattle.reassembly.proofs.Sweeps.{new-stands, new-made, zeros-stand, zeros-made}
 use Rattle.reassembly.proofs.Agreed.{fits-first, fits-follow, sweep-agrees}
@@ -16,18 +16,18 @@ use Rattle.promises.specs.Demand3.{Cut, pieceOf, noCut, Event, deliver, 
 use Rattle.promises.specs.Demand3Calls.{pieceCall, called, afterEach, afterLast, replyDue, buffersDue, secondOf, LongEnough, Demand3Calls, StoreStarts, Demand3Again, Demand3New}
 use Rattle.promises.proofs.Demand3.{demand3}
 
-piece-agrees : (rec room out : List ℕ) → Made rec room → (p : Piece) (second : ℕ) → Fits p second → Agrees out (pieceCall rec room out p second) (step (length out) (stands rec room) p second)
+piece-agrees : (rec room out : List ℕ) → Made rec room → (p : Piece) (second : ℕ) → PieceInWidth p second → Agrees out (pieceCall (lent rec room out) p second) (step (length out) (stands rec room) p second)
 unfolding pieceCall
 piece-agrees rec room out m (first id kind expires bytes) second f = first-agrees rec room out m id kind expires second bytes f
 piece-agrees rec room out m (follow id number final bytes) second f = follow-agrees rec room out m id number final second bytes f
 
-piece-fits : (c : Cut) (i second : ℕ) → c .id < 4294967296 → c .expires < 4294967296 → second < 18446744073709551616 → Fits (pieceOf c i) second
+piece-fits : (c : Cut) (i second : ℕ) → c .id < 4294967296 → c .expires < 4294967296 → second < 18446744073709551616 → PieceInWidth (pieceOf c i) second
 piece-fits c zero second a b d = fits-first (c .id) (c .kind) (c .expires) (getD (c .pieces) 0 []) second a b d
 piece-fits c (suc i) second a b d = fits-follow (c .id) (suc i) (eqb (suc (suc i)) (length (c .pieces))) (getD (c .pieces) (suc i) []) second a d
 
 -- one event
 event-agrees : (cs : List Cut) (rec room out : List ℕ) → Made rec room → ((c : ℕ) → getD cs c noCut .id < 4294967296) → ((c : ℕ) → getD cs c noCut .expires < 4294967296)
-    → (e : Event) → secondOf e < 18446744073709551616 → Agrees out (called cs rec room out e) (act (length out) cs (stands rec room) e)
+    → (e : Event) → secondOf e < 18446744073709551616 → Agrees out (called cs (lent rec room out) e) (act (length out) cs (stands rec room) e)
 unfolding called act
 event-agrees cs rec room out m hi hx (deliver c i second) hs = piece-agrees rec room out m (pieceOf (getD cs c noCut) i) second (piece-fits (getD cs c noCut) i second (hi c) (hx c) hs)
 event-agrees cs rec room out m hi hx (sweepAt second) hs = sweep-agrees second rec room out m
@@ -40,34 +40,34 @@ act-enough cap h cs s (sweepAt second) = refl
 
 module _ (outs : ℕ → List ℕ) (long : LongEnough outs) (cs : List Cut)
     (hi : (c : ℕ) → getD cs c noCut .id < 4294967296) (hx : (c : ℕ) → getD cs c noCut .expires < 4294967296) where
-  event-at : (n : ℕ) (rec room : List ℕ) → Made rec room → (e : Event) → secondOf e < 18446744073709551616 → Agrees (outs n) (called cs rec room (outs n) e) (act 65535 cs (stands rec room) e)
+  event-at : (n : ℕ) (rec room : List ℕ) → Made rec room → (e : Event) → secondOf e < 18446744073709551616 → Agrees (outs n) (called cs (lent rec room (outs n)) e) (act 65535 cs (stands rec room) e)
   event-at n rec room m e hs =
-      subst (Agrees (outs n) (called cs rec room (outs n) e)) (act-enough (length (outs n)) (long n) cs (stands rec room) e) (event-agrees cs rec room (outs n) m hi hx e hs)
+      subst (Agrees (outs n) (called cs (lent rec room (outs n)) e)) (act-enough (length (outs n)) (long n) cs (stands rec room) e) (event-agrees cs rec room (outs n) m hi hx e hs)
 
   runs : (es : List Event) (n : ℕ) (rec room : List ℕ) → Made rec room → ((k : ℕ) → secondOf (getD es k (sweepAt 0)) < 18446744073709551616)
       → (map (λ x. x .reply) (afterEach cs outs n rec room es) ≡ map replyDue (said 65535 cs (stands rec room) es))
-      × (map (λ x. x .out) (afterEach cs outs n rec room es) ≡ buffersDue outs n (said 65535 cs (stands rec room) es))
+      × (map (λ x. x .left .out) (afterEach cs outs n rec room es) ≡ buffersDue outs n (said 65535 cs (stands rec room) es))
       × (stands (afterLast cs outs n rec room es .rec) (afterLast cs outs n rec room es .room) ≡ storeAfter 65535 cs (stands rec room) es)
       × Made (afterLast cs outs n rec room es .rec) (afterLast cs outs n rec room es .room)
   runs [] n rec room m hs = (refl, refl, refl, m)
   runs (e ∷ es) n rec room m hs =
-      let a : Agrees (outs n) (called cs rec room (outs n) e) (act 65535 cs (stands rec room) e) = event-at n rec room m e (hs 0) in
-      let ih = runs es (suc n) (called cs rec room (outs n) e .rec) (called cs rec room (outs n) e .room) (a .made) (λ k. hs (suc k)) in
+      let a : Agrees (outs n) (called cs (lent rec room (outs n)) e) (act 65535 cs (stands rec room) e) = event-at n rec room m e (hs 0) in
+      let ih = runs es (suc n) (called cs (lent rec room (outs n)) e .left .rec) (called cs (lent rec room (outs n)) e .left .room) (a .made) (λ k. hs (suc k)) in
       (rw (reply-is e rec room a, ih .0, a .store) refl, rw (out-is e rec room a, ih .1, a .store) refl, ih .2 ∙ ap (λ (s : Store). storeAfter 65535 cs s es) (a .store), ih .3)
     where
-      reply-is : (e : Event) (rec room : List ℕ) → Agrees (outs n) (called cs rec room (outs n) e) (act 65535 cs (stands rec room) e)
-          → called cs rec room (outs n) e .reply ≡ replyDue (saidOf (act 65535 cs (stands rec room) e))
+      reply-is : (e : Event) (rec room : List ℕ) → Agrees (outs n) (called cs (lent rec room (outs n)) e) (act 65535 cs (stands rec room) e)
+          → called cs (lent rec room (outs n)) e .reply ≡ replyDue (saidOf (act 65535 cs (stands rec room) e))
       reply-is e rec room a = unfold replyDue saidOf in a .reply
 
-      out-is : (e : Event) (rec room : List ℕ) → Agrees (outs n) (called cs rec room (outs n) e) (act 65535 cs (stands rec room) e)
-          → called cs rec room (outs n) e .out ≡ laidOut (outs n) (saidOf (act 65535 cs (stands rec room) e) .out)
+      out-is : (e : Event) (rec room : List ℕ) → Agrees (outs n) (called cs (lent rec room (outs n)) e) (act 65535 cs (stands rec room) e)
+          → called cs (lent rec room (outs n)) e .left .out ≡ laidOut (outs n) (saidOf (act 65535 cs (stands rec room) e) .out)
       out-is e rec room a = unfold saidOf in a .delivered
 
 -- Demand 3, of the calls
 pub demand3-calls : Demand3Calls
-demand3-calls outs long rec room m z cs within es narrow q =
+demand3-calls outs long rec room m z cs within es widths q =
     let o : Fulfilled 65535 cs es = demand3 65535 (omega arith) cs within es q in
-    let r = runs outs long cs (narrow .ids) (narrow .expirations) es 0 rec room m (narrow .seconds) in
+    let r = runs outs long cs (widths .ids) (widths .expirations) es 0 rec room m (widths .seconds) in
     let d : said 65535 cs (stands rec room) es ≡ due cs (start cs) es = ap (λ (s : Store). said 65535 cs s es) z ∙ o .as-due in
     record {
       replies = r .0 ∙ ap (map replyDue) d;
@@ -86,7 +86,7 @@ store-starts =
     }
 
 pub demand3-again : Demand3Again
-demand3-again outs outs′ long rec room cs es o ds within fs narrow q = demand3-calls outs′ long _ _ (o .made) (o .ends-empty) ds within fs narrow q
+demand3-again outs outs′ long rec room cs es o ds within fs widths q = demand3-calls outs′ long _ _ (o .made) (o .ends-empty) ds within fs widths q
 
 pub demand3-new : Demand3New
 demand3-new outs long rec room lr lm = demand3-calls outs long (renewed rec) room (store-starts .new rec room lr lm .0) (store-starts .new rec room lr lm .1)

@@ -14,7 +14,7 @@ use Rattle.blocks.specs.Writing.{sizeOf}
 use Rattle.blocks.proofs.Puts.{is-length}
 use Rattle.blocks.proofs.Faults.{first-whole, follow-on-whole}
 use Rattle.blocks.proofs.WriteThenRead.{write-then-read}
-use Rattle.reassembly.specs.Store.{Piece, first, follow, Store, Rebuilt, step}
+use Rattle.reassembly.specs.Store.{Piece, first, follow, idOf, pieceBytes, Store, Rebuilt, step}
 use Rattle.reassembly.specs.Stands.{stands, Made, laidOut}
 use Rattle.reassembly.proofs.Stores.{step-enough}
 use Rattle.reassembly.proofs.Sweeps.{sweep-stands, sweep-made}
@@ -22,45 +22,44 @@ use Rattle.messages.specs.declared.Received.{Received}
 use Rattle.messages.specs.Delivery.{Delivery, deliveredBy}
 use Rattle.messages.specs.Shown.{receivedFor, OfStore}
 use Rattle.messages.proofs.OfStore.{first-of-store, follow-of-store, read-delivers, received-kept, received-refused, received-whole}
-use Rattle.numbers_outcomes.specs.declared.Outcome.{Fulfilled}
+use Rattle.numbers_outcomes.specs.declared.Outcome.{Outcome}
 use Rattle.numbers_outcomes.specs.Outcomes.{outcome}
-use Rattle.numbers_outcomes.specs.Deliveries.{deliveryOutcome, deliveryNumbers, deliveredAt}
+use Rattle.numbers_outcomes.specs.Deliveries.{deliveryOutcome, deliveryNumbers, deliveredAt, toldBy, deliverCall}
 use Rattle.numbers_outcomes.proofs.DeliveryLaws.{told-kept, told-refused, told-finished}
-use Rattle.promises.specs.Demand3.{Cut, pieceOf, cutFrom, noCut, Event, deliver, sweepAt, Tally, noTally, done, marked, start, note, Said, dueOne, due, times, act, saidOf, said, storeAfter, Fulfilled as Result}
+use Rattle.promises.specs.Demand3.{Cut, pieceOf, cutFrom, noCut, Event, deliver, sweepAt, Tally, noTally, done, marked, start, note, Said, dueOne, due, times, act, saidOf, said, storeAfter, Fulfilled}
 use Rattle.promises.specs.Demand3Calls.{secondOf, LongEnough}
-use Rattle.promises.specs.Demand3Deliveries.{PieceAt, Loan, HandedOne, Handed, Tells, handed, tellings, lastRec, lastRoom, outcomeDue, toldOf, toldDue, tellsDue, allDue, Demand3Deliveries, WrittenIsHanded}
+use Rattle.promises.specs.Demand3Deliveries.{HasPiece, Loan, HandedOne, Handed, Tells, tellsOf, handed, tellings, handedLast, outcomeDue, toldOf, toldDue, tellsDue, allDue, Demand3Deliveries, WrittenIsHanded}
 use Rattle.promises.proofs.Demand3.{demand3}
+use Rattle.reassembly.specs.Calls.{lent}
 
--- the id of a piece
-abbrev idOf : Piece → ℕ
-idOf (first id kind expires bytes) = id
-idOf (follow id number final bytes) = id
-
-abbrev Narrowly : Piece → Type 0
-Narrowly (first id kind expires bytes) = (id < 4294967296) × (expires < 4294967296)
-Narrowly (follow id number final bytes) = id < 4294967296
+-- a piece's id and expiration have four bytes
+abbrev InWidth : Piece → Type 0
+InWidth (first id kind expires bytes) = (id < 4294967296) × (expires < 4294967296)
+InWidth (follow id number final bytes) = id < 4294967296
 
 -- the block at a place that has a piece delivers what the store's step answers to the piece
-carried : (s : List ℕ) (at : ℕ) (rec room out : List ℕ) (p : Piece) (second : ℕ) → PieceAt s at p → Narrowly p → second < 18446744073709551616 → Made rec room
-    → OfStore s at (idOf p) out (deliveredAt s at rec room out second) (step (length out) (stands rec room) p second)
+carried : (s : List ℕ) (at : ℕ) (rec room out : List ℕ) (p : Piece) (second : ℕ) → HasPiece s at p → InWidth p → second < 18446744073709551616 → Made rec room
+    → OfStore s at (idOf p) out (deliveredAt s at (lent rec room out) second) (step (length out) (stands rec room) p second)
+unfolding idOf
 carried s at rec room out (first id kind expires bytes) second h w hs m =
     subst (λ (x : Delivery). OfStore s at id out x (step (length out) (stands rec room) (first id kind expires bytes) second))
     (sym (read-delivers s at rec room out second (Body.FirstFragment kind id expires (h .body)) (h .size) (h .next) (h .read)))
-    (subst (λ (v : List ℕ). OfStore s at id out (deliveredBy s at rec room out second (Body.FirstFragment kind id expires (h .body))) (step (length out) (stands rec room) (first id kind expires v) second))
+    (subst (λ (v : List ℕ). OfStore s at id out (deliveredBy s at (lent rec room out) second (Body.FirstFragment kind id expires (h .body))) (step (length out) (stands rec room) (first id kind expires v) second))
     (h .same-bytes) (first-of-store s at rec room out second kind id expires (h .body) m (w .0) (w .1) hs))
 carried s at rec room out (follow id number final bytes) second h w hs m =
     subst (λ (x : Delivery). OfStore s at id out x (step (length out) (stands rec room) (follow id number final bytes) second))
     (sym (read-delivers s at rec room out second (Body.FollowOnFragment number final id (h .body)) (h .size) (h .next) (h .read)))
-    (subst (λ (v : List ℕ). OfStore s at id out (deliveredBy s at rec room out second (Body.FollowOnFragment number final id (h .body))) (step (length out) (stands rec room) (follow id number final v) second))
+    (subst (λ (v : List ℕ). OfStore s at id out (deliveredBy s at (lent rec room out) second (Body.FollowOnFragment number final id (h .body))) (step (length out) (stands rec room) (follow id number final v) second))
     (h .same-bytes) (follow-of-store s at rec room out second number final id (h .body) m w hs))
 
 piece-id : (c : Cut) (i : ℕ) → idOf (pieceOf c i) ≡ c .id
+unfolding idOf
 piece-id c zero = refl
 piece-id c (suc i) = refl
 
-piece-narrow : (c : Cut) (i : ℕ) → c .id < 4294967296 → c .expires < 4294967296 → Narrowly (pieceOf c i)
-piece-narrow c zero a b = (a, b)
-piece-narrow c (suc i) a b = a
+piece-in-width : (c : Cut) (i : ℕ) → c .id < 4294967296 → c .expires < 4294967296 → InWidth (pieceOf c i)
+piece-in-width c zero a b = (a, b)
+piece-in-width c (suc i) a b = a
 
 -- what is said of a schedule: 54, 0 and 60, a message with 60 alone
 data Calm : Said → Type 0 where
@@ -78,7 +77,7 @@ due-calm cs ts (deliver c i second) = go (getD (getD ts c noTally .marks) i fals
     go false true = finished (cutFrom (getD cs c noCut))
     go false false = kept
 
-by-numbers : (told : List ℕ) {r r′ : Received} {o : Fulfilled} {told′ : List ℕ} → r ≡ r′ → (deliveryOutcome r′ ≡ o) × (deliveryNumbers r′ told ≡ told′) → (deliveryOutcome r ≡ o) × (deliveryNumbers r told ≡ told′)
+by-numbers : (told : List ℕ) {r r′ : Received} {o : Outcome} {told′ : List ℕ} → r ≡ r′ → (deliveryOutcome r′ ≡ o) × (deliveryNumbers r′ told ≡ told′) → (deliveryOutcome r ≡ o) × (deliveryNumbers r told ≡ told′)
 by-numbers told e h = (ap deliveryOutcome e ∙ h .0, ap (λ (z : Received). deliveryNumbers z told) e ∙ h .1)
 
 -- there a delivery's numbers are as is due
@@ -90,8 +89,8 @@ calm-tells at id told d repeated =
 calm-tells at id told d kept = by-numbers told (received-kept at id) (told-kept told)
 calm-tells at id told d (finished w) = by-numbers told (received-whole at id 60 w) (told-finished told (w .kind) id (w .expires) 0 (length (w .bytes)))
 
-delivery-tells : (l : Loan) (x : Delivery) (d : Said) (id : ℕ) → Calm d → x .received ≡ receivedFor (l .at) id (d .number) (d .out) → x .out ≡ laidOut (l .out) (d .out)
-    → _≡_ {A = Tells} (record { outcome = deliveryOutcome (x .received); out = x .out; told = deliveryNumbers (x .received) (l .told) })
+delivery-tells : (l : Loan) (x : Delivery) (d : Said) (id : ℕ) → Calm d → x .received ≡ receivedFor (l .at) id (d .number) (d .out) → x .left .out ≡ laidOut (l .out) (d .out)
+    → tellsOf (toldBy x (l .told)) ≡
     (record { outcome = outcomeDue (l .at) d; out = laidOut (l .out) (d .out); told = toldDue id (l .told) d })
 delivery-tells l x d id calm r o =
     let t = calm-tells (l .at) id (l .told) d calm in
@@ -104,19 +103,19 @@ module _ (loans : ℕ → Loan) (long : LongEnough (λ n. loans n .out)) (cs : L
   -- one event
   event : (n : ℕ) (rec room : List ℕ) → Made rec room → (e : Event) → secondOf e < 18446744073709551616 → HandedOne cs (loans n) e
       → (d : Said) → Calm d → saidOf (act 65535 cs (stands rec room) e) ≡ d
-      → (handed (loans n) rec room e .tells ≡ tellsDue cs (loans n) e d)
-      × (stands (handed (loans n) rec room e .rec) (handed (loans n) rec room e .room) ≡ act 65535 cs (stands rec room) e .store)
-      × Made (handed (loans n) rec room e .rec) (handed (loans n) rec room e .room)
-  unfolding handed act saidOf tellsDue
+      → (tellsOf (handed (loans n) rec room e) ≡ tellsDue cs (loans n) e d)
+      × (stands (handed (loans n) rec room e .left .rec) (handed (loans n) rec room e .left .room) ≡ act 65535 cs (stands rec room) e .store)
+      × Made (handed (loans n) rec room e .left .rec) (handed (loans n) rec room e .left .room)
+  unfolding handed deliverCall act saidOf tellsDue
   event n rec room m (sweepAt second) hs h d calm q = (refl, sweep-stands second rec room (m .record-long), sweep-made second rec room m)
   event n rec room m (deliver c i second) hs h d calm q =
       let p = pieceOf (getD cs c noCut) i in
       let l = loans n in
-      let x : Delivery = deliveredAt (l .payload) (l .at) rec room (l .out) second in
+      let x : Delivery = deliveredAt (l .payload) (l .at) (lent rec room (l .out)) second in
       let o : OfStore (l .payload) (l .at) (getD cs c noCut .id) (l .out) x (step 65535 (stands rec room) p second) =
       subst (λ (k : ℕ). OfStore (l .payload) (l .at) k (l .out) x (step 65535 (stands rec room) p second)) (piece-id (getD cs c noCut) i)
       (subst (OfStore (l .payload) (l .at) (idOf p) (l .out) x) (step-enough (length (l .out)) (long n) (stands rec room) p second)
-      (carried (l .payload) (l .at) rec room (l .out) p second h (piece-narrow (getD cs c noCut) i (hi c) (hx c)) hs m))
+      (carried (l .payload) (l .at) rec room (l .out) p second h (piece-in-width (getD cs c noCut) i (hi c) (hx c)) hs m))
       in (
         delivery-tells l x d (getD cs c noCut .id) calm
             (o .received ∙ ap (λ (z : Said). receivedFor (l .at) (getD cs c noCut .id) (z .number) (z .out)) q)
@@ -128,22 +127,22 @@ module _ (loans : ℕ → Loan) (long : LongEnough (λ n. loans n .out)) (cs : L
   runs : (es : List Event) (n : ℕ) (ts : List Tally) (rec room : List ℕ) → Made rec room → ((k : ℕ) → secondOf (getD es k (sweepAt 0)) < 18446744073709551616)
       → Handed cs loans n es → said 65535 cs (stands rec room) es ≡ due cs ts es
       → (tellings loans n rec room es ≡ allDue cs loans n es (due cs ts es))
-      × (stands (lastRec loans n rec room es) (lastRoom loans n rec room es) ≡ storeAfter 65535 cs (stands rec room) es)
-      × Made (lastRec loans n rec room es) (lastRoom loans n rec room es)
+      × (stands (handedLast loans n rec room es .rec) (handedLast loans n rec room es .room) ≡ storeAfter 65535 cs (stands rec room) es)
+      × Made (handedLast loans n rec room es .rec) (handedLast loans n rec room es .room)
   runs [] n ts rec room m hs h q = (refl, refl, m)
   runs (e ∷ es) n ts rec room m hs h q =
-      let second : saidOf (act 65535 cs (stands rec room) e) ≡ dueOne cs ts e = cc in
+      let here : saidOf (act 65535 cs (stands rec room) e) ≡ dueOne cs ts e = cc in
       let then : said 65535 cs (act 65535 cs (stands rec room) e .store) es ≡ due cs (note ts e) es = cc in
-      let v = event n rec room m e (hs 0) (h .0) (dueOne cs ts e) (due-calm cs ts e) second in
-      let ih = runs es (suc n) (note ts e) (handed (loans n) rec room e .rec) (handed (loans n) rec room e .room) (v .2) (λ k. hs (suc k)) (h .1) (ap (λ (s : Store). said 65535 cs s es) (v .1) ∙ then) in
+      let v = event n rec room m e (hs 0) (h .0) (dueOne cs ts e) (due-calm cs ts e) here in
+      let ih = runs es (suc n) (note ts e) (handed (loans n) rec room e .left .rec) (handed (loans n) rec room e .left .room) (v .2) (λ k. hs (suc k)) (h .1) (ap (λ (s : Store). said 65535 cs s es) (v .1) ∙ then) in
       (rw (v .0, ih .0) refl, ih .1 ∙ ap (λ (s : Store). storeAfter 65535 cs s es) (v .1), ih .2)
 
 -- Demand 3, of the payloads' blocks
 pub demand3-deliveries : Demand3Deliveries
-demand3-deliveries loans long rec room m z cs within es narrow h q =
-    let o : Result 65535 cs es = demand3 65535 (omega arith) cs within es q in
+demand3-deliveries loans long rec room m z cs within es widths h q =
+    let o : Fulfilled 65535 cs es = demand3 65535 (omega arith) cs within es q in
     let d : said 65535 cs (stands rec room) es ≡ due cs (start cs) es = ap (λ (s : Store). said 65535 cs s es) z ∙ o .as-due in
-    let r = runs loans long cs (narrow .ids) (narrow .expirations) es 0 (start cs) rec room m (narrow .seconds) h d in
+    let r = runs loans long cs (widths .ids) (widths .expirations) es 0 (start cs) rec room m (widths .seconds) h d in
     record {
       tells = r .0;
       once = λ c i. ap (times c es) (sym (o .as-due)) ∙ o .once c i;
@@ -153,6 +152,7 @@ demand3-deliveries loans long rec room m z cs within es narrow h q =
 
 -- what the block writer writes for a piece is that piece
 pub written-is-handed : WrittenIsHanded
+unfolding pieceBytes
 written-is-handed c w l hi hx zero h room lr =
     let body : List ℕ = getD (c .pieces) 0 [] in
     let b : Block = Body.FirstFragment (c .kind) (c .id) (c .expires) (bytesAt 0 0) in

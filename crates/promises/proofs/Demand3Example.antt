@@ -21,7 +21,7 @@ use Rattle.reassembly.specs.Stands.{stands, Made, laidOut}
 use Rattle.numbers_outcomes.specs.Outcomes.{outcome}
 use Rattle.promises.specs.Demand3.{Cut, Within, pieceOf, cutFrom, noCut, Event, deliver, sweepAt, Tally, noTally, begun, done, isOpen, marked, untouched, start, note, count, Allowed, Orderly, Schedule, dueOne, act, saidOf, said, Fulfilled}
 use Rattle.promises.specs.Demand3Calls.{secondOf, ScheduleInWidth, afterLast, FulfilledByCalls, LongEnough}
-use Rattle.promises.specs.Demand3Deliveries.{PieceAt, Loan, Handed, Tells, tellings, outcomeDue, toldOf, toldDue, tellsDue, FulfilledByDeliveries, blockOf, bodyOf}
+use Rattle.promises.specs.Demand3Deliveries.{HasPiece, Loan, Handed, Tells, tellings, outcomeDue, toldOf, toldDue, tellsDue, FulfilledByDeliveries, blockOf}
 use Rattle.promises.proofs.Demand3.{demand3}
 use Rattle.promises.proofs.Demand3Calls.{demand3-calls, store-starts}
 use Rattle.promises.proofs.Demand3Deliveries.{demand3-deliveries, written-is-handed}
@@ -184,17 +184,17 @@ unfolding act saidOf step answer placeOf findId findFree messageOr plus badLengt
 came-out-said = refl
 
 -- The same schedule, delivered to the calls: it meets every premise, on every record and room that calls made and that stand for the empty store, with any assembly buffers of the lent length.
-ids-narrow : (c : ℕ) → getD threeCuts c noCut .id < 4294967296
-ids-narrow zero = omega arith
-ids-narrow (suc zero) = omega arith
-ids-narrow (suc (suc zero)) = omega arith
-ids-narrow (suc (suc (suc c))) = omega arith
+ids-in-width : (c : ℕ) → getD threeCuts c noCut .id < 4294967296
+ids-in-width zero = omega arith
+ids-in-width (suc zero) = omega arith
+ids-in-width (suc (suc zero)) = omega arith
+ids-in-width (suc (suc (suc c))) = omega arith
 
-expirations-narrow : (c : ℕ) → getD threeCuts c noCut .expires < 4294967296
-expirations-narrow zero = omega arith
-expirations-narrow (suc zero) = omega arith
-expirations-narrow (suc (suc zero)) = omega arith
-expirations-narrow (suc (suc (suc c))) = omega arith
+expirations-in-width : (c : ℕ) → getD threeCuts c noCut .expires < 4294967296
+expirations-in-width zero = omega arith
+expirations-in-width (suc zero) = omega arith
+expirations-in-width (suc (suc zero)) = omega arith
+expirations-in-width (suc (suc (suc c))) = omega arith
 
 -- seconds that are all below a bound
 abbrev allEarly : List Event → Bool
@@ -206,12 +206,12 @@ early-at [] h n = omega arith
 early-at (e ∷ es) h zero = ltb-true (secondOf e) 18446744073709551616 (and-both (ltb (secondOf e) 18446744073709551616) (allEarly es) h .0)
 early-at (e ∷ es) h (suc n) = early-at es (and-both (ltb (secondOf e) 18446744073709551616) (allEarly es) h .1) n
 
-narrow : ScheduleInWidth threeCuts mixture
-narrow = record { ids = ids-narrow; expirations = expirations-narrow; seconds = early-at mixture refl }
+widths : ScheduleInWidth threeCuts mixture
+widths = record { ids = ids-in-width; expirations = expirations-in-width; seconds = early-at mixture refl }
 
 pub example-calls : (outs : ℕ → List ℕ) → LongEnough outs → (rec room : List ℕ) → Made rec room → stands rec room ≡ empty → FulfilledByCalls threeCuts outs rec room mixture
 example-calls outs long rec room m z =
-    demand3-calls outs long rec room m z threeCuts within-limits mixture narrow keeps-rules
+    demand3-calls outs long rec room m z threeCuts within-limits mixture widths keeps-rules
 
 -- on a record of zeros, and once more on what that left
 module _ (outs : ℕ → List ℕ) (long : LongEnough outs) (n : ℕ) (room : List ℕ) (lr : 8576 ≤ n) (lm : 1048560 ≤ length room) where
@@ -229,15 +229,15 @@ told-of told = record { outcome = outcome 0 0; out = []; told = told }
 -- The same schedule as blocks of payloads: each piece as the block writer leaves it in some room of 1,512 bytes or more; the repeat behind another block, at place 3.
 module _ (space : List ℕ) (wide : 1512 ≤ length space) where
   abbrev sent : ℕ → ℕ → List ℕ
-  sent c i = roomAfter (blockOf (pieceOf (getD threeCuts c noCut) i)) (bodyOf (pieceOf (getD threeCuts c noCut) i)) space
+  sent c i = roomAfter (blockOf (pieceOf (getD threeCuts c noCut) i)) (pieceBytes (pieceOf (getD threeCuts c noCut) i)) space
 
-  is-sent : (c i : ℕ) → c < 3 → listed (getD threeCuts c noCut .kind) ≡ true → i < length (getD threeCuts c noCut .pieces) → PieceAt (sent c i) 0 (pieceOf (getD threeCuts c noCut) i)
-  is-sent c i h l k = written-is-handed (getD threeCuts c noCut) (within-limits c h) l (ids-narrow c) (expirations-narrow c) i k space wide
+  is-sent : (c i : ℕ) → c < 3 → listed (getD threeCuts c noCut .kind) ≡ true → i < length (getD threeCuts c noCut .pieces) → HasPiece (sent c i) 0 (pieceOf (getD threeCuts c noCut) i)
+  is-sent c i h l k = written-is-handed (getD threeCuts c noCut) (within-limits c h) l (ids-in-width c) (expirations-in-width c) i k space wide
 
   abbrev behind : List ℕ
   behind = 15 ∷ 0 ∷ 0 ∷ 4 ∷ 0 ∷ 11 ∷ 20 ∷ 0 ∷ 0 ∷ 0 ∷ 7 ∷ 0 ∷ 0 ∷ 3 ∷ 132 ∷ 1 ∷ 2 ∷ []
 
-  is-behind : PieceAt behind 3 (first 7 20 900 (1 ∷ 2 ∷ []))
+  is-behind : HasPiece behind 3 (first 7 20 900 (1 ∷ 2 ∷ []))
   unfolding readAt blockAt extentAt takenAt firstFragment listed bigAt big little part
   is-behind = record { body = bytesAt 15 2; size = 11; next = 17; read = refl; same-bytes = refl }
 
@@ -281,7 +281,7 @@ module _ (space : List ℕ) (wide : 1512 ≤ length space) where
 
     pub example-deliveries : (rec room : List ℕ) → Made rec room → stands rec room ≡ empty → FulfilledByDeliveries threeCuts loans rec room mixture
     example-deliveries rec room m z =
-        demand3-deliveries loans long rec room m z threeCuts within-limits mixture narrow all-sent keeps-rules
+        demand3-deliveries loans long rec room m z threeCuts within-limits mixture widths all-sent keeps-rules
 
     -- and what the repeat and the sixth call, which finishes the first message, are told
     pub example-told :

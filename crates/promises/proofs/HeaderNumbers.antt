@@ -15,7 +15,7 @@ use Rattle.header.proofs.Refusals.{write-given}
 use Rattle.header.proofs.RoundTrip.{written-is-read, read-is-written}
 use Rattle.header.proofs.Widths.{read-fits, read-left, length-left, write-left}
 use Rattle.numbers.specs.Headers.{answerNumber, answerNumbers, fieldsFrom, numbersOf, NumbersInWidth}
-use Rattle.numbers.proofs.HeaderLaws.{fields-from, numbers-shown, passable-fits, kind-passable, answer-number, answer-numbers}
+use Rattle.numbers.proofs.HeaderLaws.{fields-from, numbers-shown, in-width-long, kind-in-width, answer-number, answer-numbers}
 use Rattle.promises.specs.HeaderNumbers.{readAnswer, lentNumbers, writeAnswer, writePacket, HeaderNumbers}
 
 module _ (k1 k2 p out : List ℕ) (bytes : Bytes p) (taken : readAnswer k1 k2 p ≡ 0) where
@@ -23,7 +23,7 @@ module _ (k1 k2 p out : List ℕ) (bytes : Bytes p) (taken : readAnswer k1 k2 p 
   passes =
       let e = sym (answer-number k1 k2 p) ∙ taken in
       let w = read-fits k1 k2 p e bytes in
-      rw (answer-numbers k1 k2 p out e) (kind-passable (headerAt (unmasked k1 k2 p)) (w .0) (w .1))
+      rw (answer-numbers k1 k2 p out e) (kind-in-width (headerAt (unmasked k1 k2 p)) (w .0) (w .1))
 
   writes :
       NoOthers (packetAfterRead k1 k2 p) → needOf (packetKind (packetAfterRead k1 k2 p)) ≤ length p
@@ -48,7 +48,7 @@ module _ (k1 k2 n p out : List ℕ) (fit : NumbersInWidth n) (given : writeAnswe
   reads =
       let f : Fields = fieldsFrom n in
       let packet = write-left k1 k2 f p given in
-      let both = written-is-read k1 k2 f p (passable-fits n fit) given in
+      let both = written-is-read k1 k2 f p (in-width-long n fit) given in
       let answer = ap (headerAnswer k1 k2) packet ∙ both .0 in (
         ap answerNumber answer,
         ap (λ (a : Answer). answerNumbers a out) answer ∙ numbers-shown f (write-given f (length p) given .listed),
@@ -56,4 +56,4 @@ module _ (k1 k2 n p out : List ℕ) (fit : NumbersInWidth n) (given : writeAnswe
       )
 
 pub header-numbers : HeaderNumbers
-header-numbers = record { passable = passes; read-written = writes; written-read = reads }
+header-numbers = record { in-width = passes; read-written = writes; written-read = reads }

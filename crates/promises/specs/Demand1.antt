@@ -5,7 +5,7 @@
 -- 01's useless builds, and the promise that each of them breaks:
 --   a reader that refuses everything: header `WrittenIsRead`, blocks `WriteThenRead`: what the writers take is read; `Twelve` (a), (c), (e)
 --   a tracker that always reports one number: `Demand2`
---   a list with an invented block count: listing `ListingIsReadings`
+--   a list with an invented block count: blocks_listing `ListingIsReadings`
 --   a store that does nothing: `Demand3Calls`, whose replies have 60 and the message at the last missing piece
 --   a store that always says kept: `Demand3Calls`, whose replies have 54 at a repeat
 --   a store that serves only its first message: `Demand3Calls`, where every message comes out once
@@ -34,7 +34,7 @@ use Rattle.acks.specs.Recorded.{registerThere, recordAfter, duplicateThere, rep
 use Rattle.acks.specs.AckBlocks.{ackWriting, ackRoom}
 use Rattle.acks.specs.Expanding.{expandOf, listAfter}
 use Rattle.reassembly.specs.declared.Label.{Label}
-use Rattle.reassembly.specs.Calls.{After, after, firstCall, followOnCall, renewal, renewed}
+use Rattle.reassembly.specs.Calls.{Lent, After, after, firstCall, followOnCall, renewal, renewed}
 use Rattle.messages.specs.Delivery.{deliveryWith, nothing, delivered}
 
 -- An answer that is a number refuses where it is not 0; the store's where it is not 60 either, a finished message.
@@ -110,27 +110,27 @@ abbrev pub StoreNewRefused : Type 0
 StoreNewRefused = (rec : List ℕ) → Refuses (renewal rec) → (renewal rec ≡ 59) × (renewed rec ≡ rec)
 
 -- what a store's call leaves is a refusal of some numbers, and record, room and assembly buffer as they were, byte for byte
-abbrev pub StoreStays : List ℕ → List ℕ → List ℕ → List ℕ → After → Type 0
-StoreStays numbers rec room out x = OneOf numbers (x .reply .number) × (x ≡ after (x .reply) rec room out)
+abbrev pub StoreStays : List ℕ → Lent → After → Type 0
+StoreStays numbers x y = OneOf numbers (y .reply .number) × (y ≡ after (y .reply) x)
 
 -- a first piece: 50, 52 to 56, 59
 abbrev pub FirstRefused : Type 0
 FirstRefused =
-    (rec room out : List ℕ) (l : Label) (second : ℕ) (v : List ℕ) → StoreRefuses (firstCall rec room out l second v .reply .number)
-    → StoreStays (50 ∷ 52 ∷ 53 ∷ 54 ∷ 55 ∷ 56 ∷ 59 ∷ []) rec room out (firstCall rec room out l second v)
+    (x : Lent) (l : Label) (second : ℕ) (v : List ℕ) → StoreRefuses (firstCall x l second v .reply .number)
+    → StoreStays (50 ∷ 52 ∷ 53 ∷ 54 ∷ 55 ∷ 56 ∷ 59 ∷ []) x (firstCall x l second v)
 
 -- a follow-on piece: these and 51
 abbrev pub FollowOnRefused : Type 0
 FollowOnRefused =
-    (rec room out : List ℕ) (l : Label) (second : ℕ) (v : List ℕ) → StoreRefuses (followOnCall rec room out l second v .reply .number)
-    → StoreStays (50 ∷ 51 ∷ 52 ∷ 53 ∷ 54 ∷ 55 ∷ 56 ∷ 59 ∷ []) rec room out (followOnCall rec room out l second v)
+    (x : Lent) (l : Label) (second : ℕ) (v : List ℕ) → StoreRefuses (followOnCall x l second v .reply .number)
+    → StoreStays (50 ∷ 51 ∷ 52 ∷ 53 ∷ 54 ∷ 55 ∷ 56 ∷ 59 ∷ []) x (followOnCall x l second v)
 
 -- delivering the block at a place: the block's refusals or its piece's, all with the block's place, and record, room and assembly buffer stay
 abbrev pub DeliverRefused : Type 0
 DeliverRefused =
-    (s : List ℕ) (at : ℕ) (rec room out : List ℕ) (second : ℕ) → StoreRefuses (delivered s at rec room out second (readAt s at) .received .number)
-    → OneOf (1 ∷ 2 ∷ 3 ∷ 4 ∷ 5 ∷ 6 ∷ 7 ∷ 8 ∷ 9 ∷ 50 ∷ 51 ∷ 52 ∷ 53 ∷ 54 ∷ 55 ∷ 56 ∷ 59 ∷ []) (delivered s at rec room out second (readAt s at) .received .number)
-    × (delivered s at rec room out second (readAt s at) ≡ deliveryWith (nothing (delivered s at rec room out second (readAt s at) .received .number) at) rec room out)
+    (s : List ℕ) (at : ℕ) (x : Lent) (second : ℕ) → StoreRefuses (delivered s at x second (readAt s at) .received .number)
+    → OneOf (1 ∷ 2 ∷ 3 ∷ 4 ∷ 5 ∷ 6 ∷ 7 ∷ 8 ∷ 9 ∷ 50 ∷ 51 ∷ 52 ∷ 53 ∷ 54 ∷ 55 ∷ 56 ∷ 59 ∷ []) (delivered s at x second (readAt s at) .received .number)
+    × (delivered s at x second (readAt s at) ≡ deliveryWith (nothing (delivered s at x second (readAt s at) .received .number) at) x)
 
 -- Demand 1: a part for each kind of call
 pub record Demand1 : Type 0 where

@@ -16,8 +16,9 @@ use Rattle.numbers.specs.Headers.{answerNumber, answerNumbers}
 use Rattle.numbers.specs.BlockNumbers.{readNumbers}
 use Rattle.numbers.specs.BlockFields.{writingBy, roomBy}
 use Rattle.numbers_outcomes.specs.Trackers.{newAnswer, newRecord, reportNumbers, reportPairs}
-use Rattle.numbers_outcomes.specs.Deliveries.{deliveryOutcome, deliveryNumbers, deliveredAt}
+use Rattle.numbers_outcomes.specs.Deliveries.{deliveredAt, deliverCall}
 use Rattle.promises.specs.Demand1.{Refuses, StoreRefuses}
+use Rattle.reassembly.specs.Calls.{Lent}
 
 pub record Demand1Calls : Type 0 where
   -- strawhub_header_read, its eleven numbers
@@ -36,9 +37,10 @@ pub record Demand1Calls : Type 0 where
   pub report : (r : AckInfo) (out pairs : List ℕ) → Refuses (r .number) → (reportNumbers r out ≡ out) × (reportPairs r pairs ≡ pairs)
   -- strawhub_tracker_ack_block, its room
   pub ack-room : (r : AckInfo) (room : List ℕ) → Refuses (writeOutcome (ackWriting r (length room)) .number) → ackRoom r room ≡ room
-  -- strawhub_block_deliver: the number is that of what was received, the value the block's place, whether the block or the store refused; its six numbers
+  -- strawhub_block_deliver: the number is that of what was received, the value the block's place, whether the block or the store refused; its six numbers and all else that was lent stay
   pub told :
-      (s : List ℕ) (at : ℕ) (rec room out : List ℕ) (second : ℕ) (told : List ℕ) → StoreRefuses (deliveryOutcome (deliveredAt s at rec room out second .received) .number)
-      → (deliveryOutcome (deliveredAt s at rec room out second .received) .number ≡ deliveredAt s at rec room out second .received .number)
-      × (deliveryOutcome (deliveredAt s at rec room out second .received) .value ≡ at)
-      × (deliveryNumbers (deliveredAt s at rec room out second .received) told ≡ told)
+      (s : List ℕ) (at : ℕ) (x : Lent) (second : ℕ) (told : List ℕ) → StoreRefuses (deliverCall s at x second told .outcome .number)
+      → (deliverCall s at x second told .outcome .number ≡ deliveredAt s at x second .received .number)
+      × (deliverCall s at x second told .outcome .value ≡ at)
+      × (deliverCall s at x second told .told ≡ told)
+      × (deliverCall s at x second told .left ≡ x)

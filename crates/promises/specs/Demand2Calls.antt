@@ -10,7 +10,7 @@ use Rattle.blocks.specs.declared.Block.the-variants as Body
 use Rattle.blocks.specs.declared.Read.the-variants as Got
 use Rattle.blocks.specs.Reading.{bytesAt, readAt}
 use Rattle.acks.specs.History.{Packets, answerTo, among, received, highestSeen, newest}
-use Rattle.acks.specs.Recorded.{trackerAt, registerThere, recordAll, duplicateThere, reportThere}
+use Rattle.acks.specs.Recorded.{trackerSize, trackerAt, registerThere, recordAll, duplicateThere, reportThere}
 use Rattle.acks.specs.AckBlocks.{ackWriting, ackRoom}
 use Rattle.acks.specs.declared.AckInfo.{AckInfo}
 use Rattle.numbers_outcomes.specs.Outcomes.{outcome, writeOutcome}
@@ -18,13 +18,13 @@ use Rattle.numbers_outcomes.specs.Trackers.{newRecord, reportNumbers, reportPai
 use Rattle.promises.specs.Acks.{trackerAfter}
 use Rattle.promises.specs.Demand2.{ExpandsTo}
 
--- a new record: its first 259 bytes are zeros
+-- a new record: its bytes are zeros, as far as a tracker's record goes
 abbrev pub Fresh : List ℕ → Type 0
-Fresh rec = part rec 0 259 ≡ replicate 259 0
+Fresh rec = part rec 0 trackerSize ≡ replicate trackerSize 0
 
--- such are 259 zeros, and what strawhub_tracker_new leaves of any 259 bytes or more
+-- such are a record of zeros, and what strawhub_tracker_new leaves of any record that is long enough
 abbrev pub TrackerStarts : Type 0
-TrackerStarts = Fresh (replicate 259 0) × ((rec : List ℕ) → 259 ≤ length rec → Fresh (newRecord rec))
+TrackerStarts = Fresh (replicate trackerSize 0) × ((rec : List ℕ) → trackerSize ≤ length rec → Fresh (newRecord rec))
 
 -- a report refused with 41: the lent numbers, pairs and room stay
 pub record Unreported (r : AckInfo) (out pairs room : List ℕ) : Type 0 where
@@ -37,8 +37,8 @@ pub record Unreported (r : AckInfo) (out pairs room : List ℕ) : Type 0 where
 -- a report as strawhub_tracker_report lends it, in numbers that strawhub_ack_expand takes, names exactly the newest
 pub record Reported (calls : List ℕ) (r : AckInfo) (out pairs list : List ℕ) : Type 0 where
   pub given : r .number ≡ 0
-  pub lent : reportNumbers r out ≡ highestSeen calls ∷ r .count ∷ r .len ∷ []
-  pub narrow : (highestSeen calls < 256 ^ 4) × (r .count < 256) × (r .len ≤ 254)
+  pub numbers : reportNumbers r out ≡ highestSeen calls ∷ r .count ∷ r .len ∷ []
+  pub in-width : (highestSeen calls < 256 ^ 4) × (r .count < 256) × (r .len ≤ 254)
   pub exact : ExpandsTo (highestSeen calls) (r .count) (take (r .len) (reportPairs r pairs)) list (newest calls)
 
 -- its Ack block as strawhub_tracker_ack_block writes it, read back where it stands, names the same
@@ -51,8 +51,8 @@ pub record Sent (calls : List ℕ) (r : AckInfo) (room list : List ℕ) : Type 0
 pub record TrackerTells (rec calls left : List ℕ) : Type 0 where
   -- it holds the tracker that the calls by value make
   pub holds : trackerAt left ≡ trackerAfter calls
-  -- the bytes behind the 259th are as they were
-  pub behind : (length left ≡ length rec) × (drop 259 left ≡ drop 259 rec)
+  -- the bytes behind the record are as they were
+  pub behind : (length left ≡ length rec) × (drop trackerSize left ≡ drop trackerSize rec)
   -- registering answers 40, 42, 43 or 0 by what was seen and received
   pub registers : (n : ℕ) → registerThere left n ≡ answerTo (highestSeen calls) (among (received calls)) n
   -- a duplicate is a number in the window and received, and no other

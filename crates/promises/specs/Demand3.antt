@@ -6,6 +6,7 @@ use mathlib.Core.Option.{Option, none, some}
 use Prim.Native.Nat.{ℕ, zero, suc, _+_, _≤_, _<_}
 use lib.ListN.{length, getD, set, replicate}
 use lib.Dec.{eqb}
+use Rattle.reassembly.specs.Sizes.{messageSize}
 use Rattle.reassembly.specs.Store.{Piece, first, follow, Store, empty, Rebuilt, Answer, total, joined, step, sweep}
 
 -- A message that was cut: its id, its head, and its pieces in order. The bytes it was cut from are `joined pieces`.
@@ -21,7 +22,7 @@ pub record Within (c : Cut) : Type 0 where
   pub most : length (c .pieces) ≤ 128
   pub some-bytes : (i : ℕ) → i < length (c .pieces) → 1 ≤ length (getD (c .pieces) i [])
   pub few-bytes : (i : ℕ) → i < length (c .pieces) → length (getD (c .pieces) i []) ≤ 1500
-  pub in-all : total (c .pieces) ≤ 65535
+  pub in-all : total (c .pieces) ≤ messageSize
 
 -- Piece i of a cut message: number 0 goes with the head, the others with the mark of the last.
 abbrev pub pieceOf : Cut → ℕ → Piece
@@ -152,7 +153,7 @@ pub record Fulfilled (cap : ℕ) (cs : List Cut) (es : List Event) : Type 0 wher
 -- Demand 3
 abbrev pub Demand3 : Type 0
 Demand3 =
-    (cap : ℕ) → 65535 ≤ cap
+    (cap : ℕ) → messageSize ≤ cap
     → (cs : List Cut) → ((c : ℕ) → c < length cs → Within (getD cs c noCut))
     → (es : List Event) → Schedule cs (start cs) es
     → Fulfilled cap cs es

@@ -4,32 +4,33 @@ use mathlib.Core.Path.{_≡_}
 use mathlib.Core.List.{List, [], _∷_, map}
 use Prim.Native.Nat.{ℕ, suc, _≤_, _<_}
 use lib.ListN.{length, getD, replicate}
+use Rattle.reassembly.specs.Sizes.{messageSize, roomSize, recordSize}
 use Rattle.reassembly.specs.declared.Reply.{Reply}
 use Rattle.reassembly.specs.Store.{Piece, first, follow, empty}
-use Rattle.reassembly.specs.Calls.{After, after, bare, firstCall, followOnCall, swept, renewed}
+use Rattle.reassembly.specs.Calls.{Lent, lent, After, after, bare, firstCall, followOnCall, swept, renewed}
 use Rattle.reassembly.specs.Stands.{stands, Made, labelOf, replyFor, laidOut}
 use Rattle.promises.specs.Demand3.{Cut, Within, pieceOf, noCut, Event, deliver, sweepAt, start, Schedule, Said, due, times}
 
 -- a piece arrives: the call for it, and what it leaves
-unfoldable pub pieceCall : List ℕ → List ℕ → List ℕ → Piece → ℕ → After
-pieceCall rec room out (first id kind expires bytes) second = firstCall rec room out (labelOf (first id kind expires bytes)) second bytes
-pieceCall rec room out (follow id number final bytes) second = followOnCall rec room out (labelOf (follow id number final bytes)) second bytes
+unfoldable pub pieceCall : Lent → Piece → ℕ → After
+pieceCall x (first id kind expires bytes) second = firstCall x (labelOf (first id kind expires bytes)) second bytes
+pieceCall x (follow id number final bytes) second = followOnCall x (labelOf (follow id number final bytes)) second bytes
 
 -- an event, on lent bytes
-unfoldable pub called : List Cut → List ℕ → List ℕ → List ℕ → Event → After
-called cs rec room out (deliver c i second) = pieceCall rec room out (pieceOf (getD cs c noCut) i) second
-called cs rec room out (sweepAt second) = after (bare 0) (swept second rec) room out
+unfoldable pub called : List Cut → Lent → Event → After
+called cs x (deliver c i second) = pieceCall x (pieceOf (getD cs c noCut) i) second
+called cs x (sweepAt second) = after (bare 0) (lent (swept second (x .rec)) (x .room) (x .out))
 
 -- what the calls leave, one after the other; the n-th is lent the assembly buffer outs n, whatever it holds
 abbrev pub afterEach : List Cut → (ℕ → List ℕ) → ℕ → List ℕ → List ℕ → List Event → List After
 afterEach cs outs n rec room [] = []
 afterEach cs outs n rec room (e ∷ es) =
-    called cs rec room (outs n) e ∷ afterEach cs outs (suc n) (called cs rec room (outs n) e .rec) (called cs rec room (outs n) e .room) es
+    called cs (lent rec room (outs n)) e ∷ afterEach cs outs (suc n) (called cs (lent rec room (outs n)) e .left .rec) (called cs (lent rec room (outs n)) e .left .room) es
 
 -- the record and the room after the last of them
-abbrev pub afterLast : List Cut → (ℕ → List ℕ) → ℕ → List ℕ → List ℕ → List Event → After
-afterLast cs outs n rec room [] = after (bare 0) rec room []
-afterLast cs outs n rec room (e ∷ es) = afterLast cs outs (suc n) (called cs rec room (outs n) e .rec) (called cs rec room (outs n) e .room) es
+abbrev pub afterLast : List Cut → (ℕ → List ℕ) → ℕ → List ℕ → List ℕ → List Event → Lent
+afterLast cs outs n rec room [] = lent rec room []
+afterLast cs outs n rec room (e ∷ es) = afterLast cs outs (suc n) (called cs (lent rec room (outs n)) e .left .rec) (called cs (lent rec room (outs n)) e .left .room) es
 
 -- the reply that is due, and the assembly buffer that is due
 unfoldable pub replyDue : Said → Reply
@@ -52,14 +53,14 @@ pub record ScheduleInWidth (cs : List Cut) (es : List Event) : Type 0 where
 -- Every call is answered as is due, leaves its assembly buffer as is due, every message came out once, and the record and the room are again what calls made, and stand for the empty store.
 pub record FulfilledByCalls (cs : List Cut) (outs : ℕ → List ℕ) (rec room : List ℕ) (es : List Event) : Type 0 where
   pub replies : map (λ x. x .reply) (afterEach cs outs 0 rec room es) ≡ map replyDue (due cs (start cs) es)
-  pub buffers : map (λ x. x .out) (afterEach cs outs 0 rec room es) ≡ buffersDue outs 0 (due cs (start cs) es)
+  pub buffers : map (λ x. x .left .out) (afterEach cs outs 0 rec room es) ≡ buffersDue outs 0 (due cs (start cs) es)
   pub once : (c : ℕ) → c < length cs → times c es (due cs (start cs) es) ≡ 1
   pub ends-empty : stands (afterLast cs outs 0 rec room es .rec) (afterLast cs outs 0 rec room es .room) ≡ empty
   pub made : Made (afterLast cs outs 0 rec room es .rec) (afterLast cs outs 0 rec room es .room)
 
 -- each call is lent an assembly buffer of 65,535 bytes or more
 abbrev pub LongEnough : (ℕ → List ℕ) → Type 0
-LongEnough outs = (n : ℕ) → 65535 ≤ length (outs n)
+LongEnough outs = (n : ℕ) → messageSize ≤ length (outs n)
 
 -- Demand 3, of the calls: on every record and room that calls made and that stand for the empty store
 abbrev pub Demand3Calls : Type 0
@@ -72,8 +73,8 @@ Demand3Calls =
 
 -- Records and rooms that meet its premises: a new record, and one of zeros, with any room of the lent length;
 pub record StoreStarts : Type 0 where
-  pub new : (rec room : List ℕ) → 8576 ≤ length rec → 1048560 ≤ length room → Made (renewed rec) room × (stands (renewed rec) room ≡ empty)
-  pub zero-filled : (n : ℕ) (room : List ℕ) → 8576 ≤ n → 1048560 ≤ length room → Made (replicate n 0) room × (stands (replicate n 0) room ≡ empty)
+  pub new : (rec room : List ℕ) → recordSize ≤ length rec → roomSize ≤ length room → Made (renewed rec) room × (stands (renewed rec) room ≡ empty)
+  pub zero-filled : (n : ℕ) (room : List ℕ) → recordSize ≤ n → roomSize ≤ length room → Made (replicate n 0) room × (stands (replicate n 0) room ≡ empty)
 
 -- and what a schedule left: another may follow, with messages and assembly buffers of its own.
 abbrev pub Demand3Again : Type 0
@@ -88,7 +89,7 @@ Demand3Again =
 abbrev pub Demand3New : Type 0
 Demand3New =
     (outs : ℕ → List ℕ) → LongEnough outs
-    → (rec room : List ℕ) → 8576 ≤ length rec → 1048560 ≤ length room
+    → (rec room : List ℕ) → recordSize ≤ length rec → roomSize ≤ length room
     → (cs : List Cut) → ((c : ℕ) → c < length cs → Within (getD cs c noCut))
     → (es : List Event) → ScheduleInWidth cs es → Schedule cs (start cs) es
     → FulfilledByCalls cs outs (renewed rec) room es

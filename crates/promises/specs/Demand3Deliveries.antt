@@ -1,5 +1,5 @@
 -- Demand 3 of the payloads' blocks: the schedules of specs/Demand3.antt, each piece a block of a payload that is handed to strawhub_block_deliver, each sweep a strawhub_store_sweep.
--- `deliveryOutcome`, `deliveryNumbers`, `deliveredAt` and `swept` are what the contracts of these calls say of every payload, place, record, room, buffer and six numbers.
+-- `deliverCall` and `swept` are what the contracts of these calls say of every payload, place, record, room, buffer and six numbers.
 use mathlib.Core.Path.{_≡_}
 use mathlib.Core.Bool.{true, cond}
 use mathlib.Core.List.{List, [], _∷_}
@@ -15,12 +15,12 @@ use Rattle.blocks.specs.declared.Read.the-variants as Got
 use Rattle.blocks.specs.Extent.{listed}
 use Rattle.blocks.specs.Reading.{bytesAt, readAt}
 use Rattle.blocks.specs.Writing.{roomAfter}
-use Rattle.reassembly.specs.Store.{Piece, first, follow, Rebuilt, empty}
-use Rattle.reassembly.specs.Calls.{swept}
+use Rattle.reassembly.specs.Store.{Piece, first, follow, pieceBytes, Rebuilt, empty}
+use Rattle.reassembly.specs.Calls.{Lent, lent, swept}
 use Rattle.reassembly.specs.Stands.{stands, Made, laidOut}
 use Rattle.numbers_outcomes.specs.declared.Outcome.{Outcome}
 use Rattle.numbers_outcomes.specs.Outcomes.{outcome}
-use Rattle.numbers_outcomes.specs.Deliveries.{deliveryOutcome, deliveryNumbers, deliveredAt}
+use Rattle.numbers_outcomes.specs.Deliveries.{Told, toldWith, deliverCall}
 use Rattle.promises.specs.Demand3.{Cut, Within, pieceOf, noCut, Event, deliver, sweepAt, start, Schedule, Said, due, times}
 use Rattle.promises.specs.Demand3Calls.{ScheduleInWidth, LongEnough}
 
@@ -33,9 +33,9 @@ pub record HasBlock (s : List ℕ) (at : ℕ) (block : Part → Block) (bytes : 
   pub same-bytes : part s (body .start) (body .len) ≡ bytes
 
 -- a piece is the block at a place: a first fragment with type, id and expiration, a follow-on with number, mark of the last and id
-abbrev pub PieceAt : List ℕ → ℕ → Piece → Type 0
-PieceAt s at (first id kind expires bytes) = HasBlock s at (λ p. Body.FirstFragment kind id expires p) bytes
-PieceAt s at (follow id number final bytes) = HasBlock s at (λ p. Body.FollowOnFragment number final id p) bytes
+abbrev pub HasPiece : List ℕ → ℕ → Piece → Type 0
+HasPiece s at (first id kind expires bytes) = HasBlock s at (λ p. Body.FirstFragment kind id expires p) bytes
+HasPiece s at (follow id number final bytes) = HasBlock s at (λ p. Body.FollowOnFragment number final id p) bytes
 
 -- What a call is lent for itself: a payload and a place in it, the assembly buffer, the six numbers; whatever they hold.
 pub record Loan : Type 0 where
@@ -46,7 +46,7 @@ pub record Loan : Type 0 where
 
 -- the block that a call is handed is the event's piece; a sweep is handed none
 abbrev pub HandedOne : List Cut → Loan → Event → Type 0
-HandedOne cs l (deliver c i second) = PieceAt (l .payload) (l .at) (pieceOf (getD cs c noCut) i)
+HandedOne cs l (deliver c i second) = HasPiece (l .payload) (l .at) (pieceOf (getD cs c noCut) i)
 HandedOne cs l (sweepAt second) = Unit
 
 -- the n-th call is lent loans n
@@ -60,40 +60,24 @@ pub record Tells : Type 0 where
   pub out : List ℕ
   pub told : List ℕ
 
--- what it leaves: that, and the record and the room
-pub record Leaves : Type 0 where
-  pub tells : Tells
-  pub rec : List ℕ
-  pub room : List ℕ
+abbrev pub tellsOf : Told → Tells
+tellsOf t = record { outcome = t .outcome; out = t .left .out; told = t .told }
 
 -- an event, on lent bytes
-unfoldable pub handed : Loan → List ℕ → List ℕ → Event → Leaves
-handed l rec room (deliver c i second) =
-    record {
-      tells =
-          record {
-            outcome = deliveryOutcome (deliveredAt (l .payload) (l .at) rec room (l .out) second .received);
-            out = deliveredAt (l .payload) (l .at) rec room (l .out) second .out;
-            told = deliveryNumbers (deliveredAt (l .payload) (l .at) rec room (l .out) second .received) (l .told);
-          };
-      rec = deliveredAt (l .payload) (l .at) rec room (l .out) second .rec;
-      room = deliveredAt (l .payload) (l .at) rec room (l .out) second .room;
-    }
-handed l rec room (sweepAt second) = record { tells = record { outcome = outcome 0 0; out = l .out; told = l .told }; rec = swept second rec; room = room }
+unfoldable pub handed : Loan → List ℕ → List ℕ → Event → Told
+handed l rec room (deliver c i second) = deliverCall (l .payload) (l .at) (lent rec room (l .out)) second (l .told)
+handed l rec room (sweepAt second) = toldWith (outcome 0 0) (l .told) (lent (swept second rec) room (l .out))
 
 -- what the calls tell, one after the other
 abbrev pub tellings : (ℕ → Loan) → ℕ → List ℕ → List ℕ → List Event → List Tells
 tellings loans n rec room [] = []
-tellings loans n rec room (e ∷ es) = handed (loans n) rec room e .tells ∷ tellings loans (suc n) (handed (loans n) rec room e .rec) (handed (loans n) rec room e .room) es
+tellings loans n rec room (e ∷ es) =
+    tellsOf (handed (loans n) rec room e) ∷ tellings loans (suc n) (handed (loans n) rec room e .left .rec) (handed (loans n) rec room e .left .room) es
 
 -- the record and the room after the last of them
-abbrev pub lastRec : (ℕ → Loan) → ℕ → List ℕ → List ℕ → List Event → List ℕ
-lastRec loans n rec room [] = rec
-lastRec loans n rec room (e ∷ es) = lastRec loans (suc n) (handed (loans n) rec room e .rec) (handed (loans n) rec room e .room) es
-
-abbrev pub lastRoom : (ℕ → Loan) → ℕ → List ℕ → List ℕ → List Event → List ℕ
-lastRoom loans n rec room [] = room
-lastRoom loans n rec room (e ∷ es) = lastRoom loans (suc n) (handed (loans n) rec room e .rec) (handed (loans n) rec room e .room) es
+abbrev pub handedLast : (ℕ → Loan) → ℕ → List ℕ → List ℕ → List Event → Lent
+handedLast loans n rec room [] = lent rec room []
+handedLast loans n rec room (e ∷ es) = handedLast loans (suc n) (handed (loans n) rec room e .left .rec) (handed (loans n) rec room e .left .room) es
 
 -- the number and value that are due: 54 with the block's place, else the number and 0
 unfoldable pub outcomeDue : ℕ → Said → Outcome
@@ -122,8 +106,8 @@ allDue cs loans n (e ∷ es) (d ∷ ds) = tellsDue cs (loans n) e d ∷ allDue c
 pub record FulfilledByDeliveries (cs : List Cut) (loans : ℕ → Loan) (rec room : List ℕ) (es : List Event) : Type 0 where
   pub tells : tellings loans 0 rec room es ≡ allDue cs loans 0 es (due cs (start cs) es)
   pub once : (c : ℕ) → c < length cs → times c es (due cs (start cs) es) ≡ 1
-  pub ends-empty : stands (lastRec loans 0 rec room es) (lastRoom loans 0 rec room es) ≡ empty
-  pub made : Made (lastRec loans 0 rec room es) (lastRoom loans 0 rec room es)
+  pub ends-empty : stands (handedLast loans 0 rec room es .rec) (handedLast loans 0 rec room es .room) ≡ empty
+  pub made : Made (handedLast loans 0 rec room es .rec) (handedLast loans 0 rec room es .room)
 
 -- Demand 3, of the payloads' blocks
 abbrev pub Demand3Deliveries : Type 0
@@ -134,14 +118,10 @@ Demand3Deliveries =
     → (es : List Event) → ScheduleInWidth cs es → Handed cs loans 0 es → Schedule cs (start cs) es
     → FulfilledByDeliveries cs loans rec room es
 
--- a piece as a block to be written, and the bytes to be written after its fields
+-- a piece as a block to be written; `pieceBytes` are written after its fields
 abbrev pub blockOf : Piece → Block
 blockOf (first id kind expires bytes) = Body.FirstFragment kind id expires (bytesAt 0 0)
 blockOf (follow id number final bytes) = Body.FollowOnFragment number final id (bytesAt 0 0)
-
-abbrev pub bodyOf : Piece → List ℕ
-bodyOf (first id kind expires bytes) = bytes
-bodyOf (follow id number final bytes) = bytes
 
 -- Such payloads exist: what the block writer leaves in a room of 1,512 bytes or more for a piece of a message within the limits, of a listed type, is that piece.
 abbrev pub WrittenIsHanded : Type 0
@@ -149,4 +129,4 @@ WrittenIsHanded =
     (c : Cut) → Within c → listed (c .kind) ≡ true → c .id < 4294967296 → c .expires < 4294967296
     → (i : ℕ) → i < length (c .pieces)
     → (room : List ℕ) → 1512 ≤ length room
-    → PieceAt (roomAfter (blockOf (pieceOf c i)) (bodyOf (pieceOf c i)) room) 0 (pieceOf c i)
+    → HasPiece (roomAfter (blockOf (pieceOf c i)) (pieceBytes (pieceOf c i)) room) 0 (pieceOf c i)

@@ -27,7 +27,7 @@ writePacket k1 k2 n p = packetAfterWrite k1 k2 (fieldsFrom n) p
 
 pub record HeaderNumbers : Type 0 where
   -- each number of a packet that was read fits its parameter of the writing call
-  pub passable : (k1 k2 p out : List ℕ) → Bytes p → readAnswer k1 k2 p ≡ 0 → NumbersInWidth (lentNumbers k1 k2 p out)
+  pub in-width : (k1 k2 p out : List ℕ) → Bytes p → readAnswer k1 k2 p ≡ 0 → NumbersInWidth (lentNumbers k1 k2 p out)
   -- these numbers, written over the packet that reading left, give 0 and the packet that came, where no unnamed bit is set and writing has its length
   pub read-written :
       (k1 k2 p out : List ℕ) → Bytes p → readAnswer k1 k2 p ≡ 0 → NoOthers (packetAfterRead k1 k2 p) → needOf (packetKind (packetAfterRead k1 k2 p)) ≤ length p

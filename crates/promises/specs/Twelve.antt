@@ -8,7 +8,8 @@ use Rattle.wire.specs.Parts.{part}
 use Rattle.blocks.specs.declared.Block.the-variants as Body
 use Rattle.blocks.specs.declared.Read.{Read}
 use Rattle.blocks.specs.declared.Read.the-variants as Got
-use Rattle.blocks.specs.Reading.{bytesAt, readAt, partOf}
+use Rattle.blocks.specs.Reading.{bytesAt, readAt}
+use Rattle.blocks.specs.Claims.{shownBytes}
 use Rattle.blocks_listing.specs.Listing.{Listing, no, blocksOf}
 use Rattle.acks.specs.Tracking.{fresh, registerOf}
 use Rattle.acks.specs.Reporting.{reportOfRuns}
@@ -17,9 +18,9 @@ use Rattle.reassembly.specs.Store as Store
 use Rattle.promises.specs.Acks.{reportAfter}
 
 -- the bytes that a block read from a payload shows
-abbrev pub shows : List ℕ → Read → List ℕ
-shows s (Got.Block b size next) = part s (partOf b .start) (partOf b .len)
-shows s (Got.Refused number place) = []
+abbrev pub readBytes : List ℕ → Read → List ℕ
+readBytes s (Got.Block b size next) = shownBytes s b
+readBytes s (Got.Refused number place) = []
 
 -- a case: what is given, and what comes of it
 pub data Case : Type 0 where
@@ -38,7 +39,7 @@ pub data Case : Type 0 where
 
 -- what a case says of the definitions
 abbrev pub Holds : Case → Type 0
-Holds (reads s r bytes) = (readAt s 0 ≡ r) × (shows s r ≡ bytes)
+Holds (reads s r bytes) = (readAt s 0 ≡ r) × (readBytes s r ≡ bytes)
 Holds (lists s l) = blocksOf s ≡ l
 Holds (expands s t c size next pairs names) =
     (readAt s 0 ≡ Got.Block (Body.Ack t c (bytesAt 8 (length pairs))) size next) × (part s 8 (length pairs) ≡ pairs) × (expansion t c pairs ≡ names)
@@ -46,24 +47,60 @@ Holds (reports calls through runs) = reportAfter calls ≡ reportOfRuns through 
 Holds (registers n answer) = registerOf fresh n .answer ≡ answer
 Holds (rebuilds ps answers) = Store.stepNumbers Store.empty ps ≡ answers
 
--- (a) to (l)
-abbrev pub twelve : List Case
-twelve =
-    reads (0 ∷ 0 ∷ 0 ∷ 0 ∷ 0 ∷ 0 ∷ 7 ∷ []) (Got.Block (Body.DateTime 7) 0 7) []
-    ∷ lists (12 ∷ 0 ∷ 6 ∷ 0 ∷ 0 ∷ 0 ∷ 10 ∷ 2 ∷ 1 ∷ []) (no 1 8)
-    ∷ expands (12 ∷ 0 ∷ 7 ∷ 0 ∷ 0 ∷ 0 ∷ 10 ∷ 2 ∷ 1 ∷ 3 ∷ []) 10 2 7 10 (1 ∷ 3 ∷ []) (10 ∷ 9 ∷ 8 ∷ 6 ∷ 5 ∷ 4 ∷ [])
-    ∷ reads (13 ∷ 0 ∷ 7 ∷ 31 ∷ 144 ∷ []) (Got.Refused 8 0) []
-    ∷ reads (13 ∷ 0 ∷ 6 ∷ 31 ∷ 144 ∷ 10 ∷ 0 ∷ 0 ∷ 1 ∷ []) (Got.Block (Body.Address 8080 (bytesAt 5 4)) 6 9) (10 ∷ 0 ∷ 0 ∷ 1 ∷ [])
-    ∷ reads (4 ∷ 0 ∷ 9 ∷ 11 ∷ 0 ∷ 0 ∷ 0 ∷ 1 ∷ 0 ∷ 0 ∷ 0 ∷ 2 ∷ []) (Got.Refused 4 0) []
-    ∷ reads (4 ∷ 0 ∷ 10 ∷ 11 ∷ 0 ∷ 0 ∷ 0 ∷ 1 ∷ 0 ∷ 0 ∷ 0 ∷ 2 ∷ []) (Got.Refused 5 0) []
-    ∷ reports (5 ∷ []) 5 (0 ∷ 4 ∷ 1 ∷ [])
-    ∷ reports (4 ∷ 2 ∷ []) 4 (0 ∷ 1 ∷ 1 ∷ 1 ∷ 1 ∷ [])
-    ∷ registers 256 40
-    ∷ reports (255 ∷ []) 255 (0 ∷ 254 ∷ 0 ∷ [])
-    ∷ rebuilds
+-- (a) `00 0000 00000007`: time 7
+abbrev pub caseA : Case
+caseA = reads (0x00 ∷ 0x00 ∷ 0x00 ∷ 0x00 ∷ 0x00 ∷ 0x00 ∷ 0x07 ∷ []) (Got.Block (Body.DateTime 7) 0 7) []
+
+-- (b) `0C 0006 0000000A 02 01`: 1 at 8
+abbrev pub caseB : Case
+caseB = lists (0x0C ∷ 0x00 ∷ 0x06 ∷ 0x00 ∷ 0x00 ∷ 0x00 ∷ 0x0A ∷ 0x02 ∷ 0x01 ∷ []) (no 1 8)
+
+-- (c) `0C 0007 0000000A 02 01 03`: 10, 9, 8, 6, 5, 4
+abbrev pub caseC : Case
+caseC = expands (0x0C ∷ 0x00 ∷ 0x07 ∷ 0x00 ∷ 0x00 ∷ 0x00 ∷ 0x0A ∷ 0x02 ∷ 0x01 ∷ 0x03 ∷ []) 10 2 7 10 (0x01 ∷ 0x03 ∷ []) (10 ∷ 9 ∷ 8 ∷ 6 ∷ 5 ∷ 4 ∷ [])
+
+-- (d) `0D 0007 1F90`: 8 at 0
+abbrev pub caseD : Case
+caseD = reads (0x0D ∷ 0x00 ∷ 0x07 ∷ 0x1F ∷ 0x90 ∷ []) (Got.Refused 8 0) []
+
+-- (e) `0D 0006 1F90 0A000001`: 10.0.0.1, port 8080
+abbrev pub caseE : Case
+caseE = reads (0x0D ∷ 0x00 ∷ 0x06 ∷ 0x1F ∷ 0x90 ∷ 0x0A ∷ 0x00 ∷ 0x00 ∷ 0x01 ∷ []) (Got.Block (Body.Address 8080 (bytesAt 5 4)) 6 9) (10 ∷ 0 ∷ 0 ∷ 1 ∷ [])
+
+-- (f) `04 0009 0B 00000001 00000002`: 4
+abbrev pub caseF : Case
+caseF = reads (0x04 ∷ 0x00 ∷ 0x09 ∷ 0x0B ∷ 0x00 ∷ 0x00 ∷ 0x00 ∷ 0x01 ∷ 0x00 ∷ 0x00 ∷ 0x00 ∷ 0x02 ∷ []) (Got.Refused 4 0) []
+
+-- (g) the same with size 000A: 5
+abbrev pub caseG : Case
+caseG = reads (0x04 ∷ 0x00 ∷ 0x0A ∷ 0x0B ∷ 0x00 ∷ 0x00 ∷ 0x00 ∷ 0x01 ∷ 0x00 ∷ 0x00 ∷ 0x00 ∷ 0x02 ∷ []) (Got.Refused 5 0) []
+
+-- (h) Register 5: through 5, count 0, (4,1)
+abbrev pub caseH : Case
+caseH = reports (5 ∷ []) 5 (0 ∷ 4 ∷ 1 ∷ [])
+
+-- (i) 4, then 2: count 0, (1,1),(1,1)
+abbrev pub caseI : Case
+caseI = reports (4 ∷ 2 ∷ []) 4 (0 ∷ 1 ∷ 1 ∷ 1 ∷ 1 ∷ [])
+
+-- (j) 256 first: 40
+abbrev pub caseJ : Case
+caseJ = registers 256 40
+
+-- (k) 255 first: count 0, (254,0)
+abbrev pub caseK : Case
+caseK = reports (255 ∷ []) 255 (0 ∷ 254 ∷ 0 ∷ [])
+
+-- (l) Pieces 0, 2 last, 5, 1: 0, 0, 55, 60
+abbrev pub caseL : Case
+caseL =
+    rebuilds
     (Store.first 1 20 9 (10 ∷ []) ∷ Store.follow 1 2 true (12 ∷ []) ∷ Store.follow 1 5 false (15 ∷ []) ∷ Store.follow 1 1 false (11 ∷ []) ∷ [])
     (0 ∷ 0 ∷ 55 ∷ 60 ∷ [])
-    ∷ []
+
+-- (a) to (l)
+abbrev pub twelve : List Case
+twelve = caseA ∷ caseB ∷ caseC ∷ caseD ∷ caseE ∷ caseF ∷ caseG ∷ caseH ∷ caseI ∷ caseJ ∷ caseK ∷ caseL ∷ []
 
 abbrev pub All : List Case → Type 0
 All [] = Unit

@@ -18,7 +18,7 @@ use Rattle.reassembly.specs.Record.{headAt, withHead, entryAt, withEntry
 use Rattle.reassembly.specs.Slots.{firstFrom, isOpenAs, isFree}
 use Rattle.reassembly.specs.Message.{messageOf, joinsOutside}
 use Rattle.reassembly.specs.Judge.{pick, sameLabel, again, misfits, moreOf, grownBy, isComplete, newHead, noHead, isOld}
-use Rattle.reassembly.specs.Calls.{After, after, bare, keptRec, keptRoom, finished, putIn, compared, added, openedIn, openedNow, takenPiece, lentShort, badSize, offNumber, firstCall, followOnCall, sweptAt, sweptTo}
+use Rattle.reassembly.specs.Calls.{lent, After, after, bare, keptRec, keptRoom, finished, putIn, compared, added, openedIn, openedNow, takenPiece, lentShort, badSize, offNumber, firstCall, followOnCall, sweptAt, sweptTo}
 
 -- a message that is whole has a last number below 128
 pub whole-last : (h : Head) → isComplete h ≡ true → h .last < 128
@@ -31,13 +31,13 @@ whole-last h e = ltb-true (h .last) 128 (go (ltb 0 (h .last)) (ltb (h .last) 128
     go false b c q = absurd (false≢true q)
 
 module _ (rec room out : List ℕ) (i : ℕ) (l : Label) (g : Head) (v : List ℕ) where
-  pub finished-59 : (r : Reply) (o : Bool) (k m : ℕ) → k ≡ l .number → m ≡ g .last → o ≡ joinsOutside rec i k (m + 1) → o ≡ true → r ≡ bare 59 → after r rec room out ≡ finished rec room out i l g v
+  pub finished-59 : (r : Reply) (o : Bool) (k m : ℕ) → k ≡ l .number → m ≡ g .last → o ≡ joinsOutside rec i k (m + 1) → o ≡ true → r ≡ bare 59 → after r (lent rec room out) ≡ finished (lent rec room out) i l g v
   unfolding finished
   finished-59 r o k m ek em eo t q =
       let u : joinsOutside rec i (l .number) (g .last + 1) ≡ true = cc in
       rw (u, q) refl
 
-  pub finished-short : (r : Reply) (o : Bool) (n k m : ℕ) → k ≡ l .number → m ≡ g .last → o ≡ joinsOutside rec i k (m + 1) → o ≡ false → n ≡ length (messageOf rec room i k v (m + 1)) → length out < n → r ≡ bare 56 → after r rec room out ≡ finished rec room out i l g v
+  pub finished-short : (r : Reply) (o : Bool) (n k m : ℕ) → k ≡ l .number → m ≡ g .last → o ≡ joinsOutside rec i k (m + 1) → o ≡ false → n ≡ length (messageOf rec room i k v (m + 1)) → length out < n → r ≡ bare 56 → after r (lent rec room out) ≡ finished (lent rec room out) i l g v
   unfolding finished
   finished-short r o n k m ek em eo f en h q =
       let u : joinsOutside rec i (l .number) (g .last + 1) ≡ false = cc in
@@ -47,7 +47,7 @@ module _ (rec room out : List ℕ) (i : ℕ) (l : Label) (g : Head) (v : List �
 
   pub finished-out : (o : Bool) (n k m : ℕ) (rec′ out′ : List ℕ) (z : Head) → k ≡ l .number → m ≡ g .last → o ≡ joinsOutside rec i k (m + 1) → o ≡ false → n ≡ length (messageOf rec room i k v (m + 1)) → n ≤ length out
       → out′ ≡ splice out 0 (messageOf rec room i k v (m + 1)) → z ≡ noHead → rec′ ≡ withHead rec i z
-      → after (record { number = 60; kind = g .kind; expires = g .expires; length = n }) rec′ room out′ ≡ finished rec room out i l g v
+      → after (record { number = 60; kind = g .kind; expires = g .expires; length = n }) (lent rec′ room out′) ≡ finished (lent rec room out) i l g v
   unfolding finished
   finished-out o n k m rec′ out′ z ek em eo f en h eq eh er =
       let u : joinsOutside rec i (l .number) (g .last + 1) ≡ false = cc in
@@ -56,18 +56,18 @@ module _ (rec room out : List ℕ) (i : ℕ) (l : Label) (g : Head) (v : List �
       rw (u, t) (cc)
 
 module _ (rec room out : List ℕ) (i : ℕ) (h : Head) (l : Label) (v : List ℕ) where
-  pub put-53 : (r : Reply) → 65535 < h .total + length v → r ≡ bare 53 → after r rec room out ≡ putIn rec room out i h l v
+  pub put-53 : (r : Reply) → 65535 < h .total + length v → r ≡ bare 53 → after r (lent rec room out) ≡ putIn (lent rec room out) i h l v
   unfolding putIn
   put-53 r t q = rw (lt-ltb 65535 (h .total + length v) t, q) refl
 
-  pub put-whole : (x : After) (g : Head) → h .total + length v ≤ 65535 → g ≡ grownBy h l (length v) → isComplete g ≡ true → x ≡ finished rec room out i l g v → x ≡ putIn rec room out i h l v
+  pub put-whole : (x : After) (g : Head) → h .total + length v ≤ 65535 → g ≡ grownBy h l (length v) → isComplete g ≡ true → x ≡ finished (lent rec room out) i l g v → x ≡ putIn (lent rec room out) i h l v
   unfolding putIn
   put-whole x g t e w q =
       let w′ : isComplete (grownBy h l (length v)) ≡ true = ap isComplete (sym e) ∙ w in
-      rw (le-ltb 65535 (h .total + length v) t, w′) (q ∙ ap (λ (z : Head). finished rec room out i l z v) e)
+      rw (le-ltb 65535 (h .total + length v) t, w′) (q ∙ ap (λ (z : Head). finished (lent rec room out) i l z v) e)
 
   pub put-kept : (r : Reply) (rec′ room′ : List ℕ) (g : Head) (k : ℕ) → h .total + length v ≤ 65535 → g ≡ grownBy h l (length v) → isComplete g ≡ false → k ≡ l .number
-      → rec′ ≡ keptRec rec i k (h .total) (length v) g → room′ ≡ keptRoom room i (h .total) v → r ≡ bare 0 → after r rec′ room′ out ≡ putIn rec room out i h l v
+      → rec′ ≡ keptRec rec i k (h .total) (length v) g → room′ ≡ keptRoom room i (h .total) v → r ≡ bare 0 → after r (lent rec′ room′ out) ≡ putIn (lent rec room out) i h l v
   unfolding putIn
   put-kept r rec′ room′ g k t e w n a b q =
       let w′ : isComplete (grownBy h l (length v)) ≡ false = ap isComplete (sym e) ∙ w in
@@ -77,23 +77,23 @@ module _ (rec room out : List ℕ) (i : ℕ) (l : Label) (v : List ℕ) (h : Hea
   len-is : e .len ≡ entryAt rec i (l .number) .len
   len-is = ap (λ (x : Entry). x .len) ee ∙ ap (λ (z : ℕ). entryAt rec i z .len) ek
 
-  pub added-again : (r : Reply) (n : ℕ) → (e .len ≡ 0 → ⊥) → n ≡ compared rec room i h l v → r ≡ bare n → after r rec room out ≡ added rec room out i l v
+  pub added-again : (r : Reply) (n : ℕ) → (e .len ≡ 0 → ⊥) → n ≡ compared rec room i h l v → r ≡ bare n → after r (lent rec room out) ≡ added (lent rec room out) i l v
   unfolding added
   added-again r n t q b =
       let u : n ≡ compared rec room i (headAt rec i) l v = cc in
       rw (ne-eqb (entryAt rec i (l .number) .len) 0 (λ z. t (len-is ∙ z)), b, u) refl
 
-  pub added-55 : (r : Reply) (b : Bool) → e .len ≡ 0 → b ≡ misfits h l → b ≡ true → r ≡ bare 55 → after r rec room out ≡ added rec room out i l v
+  pub added-55 : (r : Reply) (b : Bool) → e .len ≡ 0 → b ≡ misfits h l → b ≡ true → r ≡ bare 55 → after r (lent rec room out) ≡ added (lent rec room out) i l v
   unfolding added
   added-55 r b t m m′ q =
       let u : misfits (headAt rec i) l ≡ true = cc in
       rw (eq-eqb (entryAt rec i (l .number) .len) 0 (sym len-is ∙ t), u, q) refl
 
-  pub added-put : (x : After) (b : Bool) → e .len ≡ 0 → b ≡ misfits h l → b ≡ false → x ≡ putIn rec room out i h l v → x ≡ added rec room out i l v
+  pub added-put : (x : After) (b : Bool) → e .len ≡ 0 → b ≡ misfits h l → b ≡ false → x ≡ putIn (lent rec room out) i h l v → x ≡ added (lent rec room out) i l v
   unfolding added
   added-put x b t m m′ q =
       let u : misfits (headAt rec i) l ≡ false = cc in
-      rw (eq-eqb (entryAt rec i (l .number) .len) 0 (sym len-is ∙ t), u) (q ∙ ap (λ (z : Head). putIn rec room out i z l v) eh)
+      rw (eq-eqb (entryAt rec i (l .number) .len) 0 (sym len-is ∙ t), u) (q ∙ ap (λ (z : Head). putIn (lent rec room out) i z l v) eh)
 
 -- a piece whose number is held
 module _ (rec room : List ℕ) (i : ℕ) (h : Head) (l : Label) (v : List ℕ) (k : ℕ) (e : Entry) (o : Bool) (ek : k ≡ l .number) (ee : e ≡ entryAt rec i k) (eo : o ≡ outside e) where
@@ -119,7 +119,7 @@ kept-is rec rec₁ rec′ room room′ i k total g v at ea em e₁ e₂ =
 
 pub opened-kept : (rec room rec₁ rec′ room′ : List ℕ) (i k second : ℕ) (l : Label) (g₀ g : Head) (v : List ℕ) → rec₁ ≡ cleared rec i → g₀ ≡ newHead l second → g ≡ grownBy g₀ l (length v)
     → k ≡ l .number → rec′ ≡ keptRec rec₁ i k 0 (length v) g → room′ ≡ keptRoom room i 0 v
-    → (out : List ℕ) → after (bare 0) rec′ room′ out ≡ openedIn rec room out i l second v
+    → (out : List ℕ) → after (bare 0) (lent rec′ room′ out) ≡ openedIn (lent rec room out) i l second v
 unfolding openedIn
 opened-kept rec room rec₁ rec′ room′ i k second l g₀ g v e₁ e₂ e₃ e₄ e₅ e₆ out = cc
 
@@ -136,47 +136,47 @@ swept-young rec i second h b eh eb t =
     rw o refl
 
 module _ (rec room out : List ℕ) (l : Label) (second : ℕ) (v : List ℕ) where
-  pub opened-52 : (r : Reply) → 16 ≤ firstFrom (isFree rec) 0 16 → r ≡ bare 52 → after r rec room out ≡ openedNow rec room out l second v
+  pub opened-52 : (r : Reply) → 16 ≤ firstFrom (isFree rec) 0 16 → r ≡ bare 52 → after r (lent rec room out) ≡ openedNow (lent rec room out) l second v
   unfolding openedNow
   opened-52 r t q = rw (le-leb 16 (firstFrom (isFree rec) 0 16) t, q) refl
 
-  pub opened-in : (x : After) (i : ℕ) → i ≡ firstFrom (isFree rec) 0 16 → i < 16 → x ≡ openedIn rec room out i l second v → x ≡ openedNow rec room out l second v
+  pub opened-in : (x : After) (i : ℕ) → i ≡ firstFrom (isFree rec) 0 16 → i < 16 → x ≡ openedIn (lent rec room out) i l second v → x ≡ openedNow (lent rec room out) l second v
   unfolding openedNow
-  opened-in x i e t q = rw (lt-leb 16 (firstFrom (isFree rec) 0 16) (omega arith)) (q ∙ ap (λ (z : ℕ). openedIn rec room out z l second v) e)
+  opened-in x i e t q = rw (lt-leb 16 (firstFrom (isFree rec) 0 16) (omega arith)) (q ∙ ap (λ (z : ℕ). openedIn (lent rec room out) z l second v) e)
 
-  pub taken-added : (x : After) (i : ℕ) → i ≡ firstFrom (isOpenAs rec (l .id)) 0 16 → i < 16 → x ≡ added rec room out i l v → x ≡ takenPiece rec room out l second v
+  pub taken-added : (x : After) (i : ℕ) → i ≡ firstFrom (isOpenAs rec (l .id)) 0 16 → i < 16 → x ≡ added (lent rec room out) i l v → x ≡ takenPiece (lent rec room out) l second v
   unfolding takenPiece
-  taken-added x i e t q = rw (lt-ltb (firstFrom (isOpenAs rec (l .id)) 0 16) 16 (omega arith)) (q ∙ ap (λ (z : ℕ). added rec room out z l v) e)
+  taken-added x i e t q = rw (lt-ltb (firstFrom (isOpenAs rec (l .id)) 0 16) 16 (omega arith)) (q ∙ ap (λ (z : ℕ). added (lent rec room out) z l v) e)
 
-  pub taken-opened : (x : After) (i : ℕ) → i ≡ firstFrom (isOpenAs rec (l .id)) 0 16 → 16 ≤ i → x ≡ openedNow rec room out l second v → x ≡ takenPiece rec room out l second v
+  pub taken-opened : (x : After) (i : ℕ) → i ≡ firstFrom (isOpenAs rec (l .id)) 0 16 → 16 ≤ i → x ≡ openedNow (lent rec room out) l second v → x ≡ takenPiece (lent rec room out) l second v
   unfolding takenPiece
   taken-opened x i e t q = rw (le-ltb (firstFrom (isOpenAs rec (l .id)) 0 16) 16 (omega arith)) q
 
-  pub first-59 : (r : Reply) → lentShort rec room ≡ true → r ≡ bare 59 → after r rec room out ≡ firstCall rec room out l second v
+  pub first-59 : (r : Reply) → lentShort rec room ≡ true → r ≡ bare 59 → after r (lent rec room out) ≡ firstCall (lent rec room out) l second v
   unfolding firstCall
   first-59 r t q = rw (t, q) refl
 
-  pub first-50 : (r : Reply) → lentShort rec room ≡ false → badSize (length v) ≡ true → r ≡ bare 50 → after r rec room out ≡ firstCall rec room out l second v
+  pub first-50 : (r : Reply) → lentShort rec room ≡ false → badSize (length v) ≡ true → r ≡ bare 50 → after r (lent rec room out) ≡ firstCall (lent rec room out) l second v
   unfolding firstCall
   first-50 r t s q = rw (t, s, q) refl
 
-  pub first-taken : (x : After) → lentShort rec room ≡ false → badSize (length v) ≡ false → x ≡ takenPiece rec room out l second v → x ≡ firstCall rec room out l second v
+  pub first-taken : (x : After) → lentShort rec room ≡ false → badSize (length v) ≡ false → x ≡ takenPiece (lent rec room out) l second v → x ≡ firstCall (lent rec room out) l second v
   unfolding firstCall
   first-taken x t s q = rw (t, s) q
 
-  pub follow-59 : (r : Reply) → lentShort rec room ≡ true → r ≡ bare 59 → after r rec room out ≡ followOnCall rec room out l second v
+  pub follow-59 : (r : Reply) → lentShort rec room ≡ true → r ≡ bare 59 → after r (lent rec room out) ≡ followOnCall (lent rec room out) l second v
   unfolding followOnCall
   follow-59 r t q = rw (t, q) refl
 
-  pub follow-50 : (r : Reply) → lentShort rec room ≡ false → badSize (length v) ≡ true → r ≡ bare 50 → after r rec room out ≡ followOnCall rec room out l second v
+  pub follow-50 : (r : Reply) → lentShort rec room ≡ false → badSize (length v) ≡ true → r ≡ bare 50 → after r (lent rec room out) ≡ followOnCall (lent rec room out) l second v
   unfolding followOnCall
   follow-50 r t s q = rw (t, s, q) refl
 
-  pub follow-51 : (r : Reply) → lentShort rec room ≡ false → badSize (length v) ≡ false → offNumber (l .number) ≡ true → r ≡ bare 51 → after r rec room out ≡ followOnCall rec room out l second v
+  pub follow-51 : (r : Reply) → lentShort rec room ≡ false → badSize (length v) ≡ false → offNumber (l .number) ≡ true → r ≡ bare 51 → after r (lent rec room out) ≡ followOnCall (lent rec room out) l second v
   unfolding followOnCall
   follow-51 r t s n q = rw (t, s, n, q) refl
 
-  pub follow-taken : (x : After) → lentShort rec room ≡ false → badSize (length v) ≡ false → offNumber (l .number) ≡ false → x ≡ takenPiece rec room out l second v → x ≡ followOnCall rec room out l second v
+  pub follow-taken : (x : After) → lentShort rec room ≡ false → badSize (length v) ≡ false → offNumber (l .number) ≡ false → x ≡ takenPiece (lent rec room out) l second v → x ≡ followOnCall (lent rec room out) l second v
   unfolding followOnCall
   follow-taken x t s n q = rw (t, s, n) q
 

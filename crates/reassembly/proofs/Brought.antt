@@ -69,6 +69,6 @@ module _ (out : List ℕ) (x : After) (a : Answer) (g : Agrees out x a) where
   reply-some w e = g .reply ∙ ap (replyFor (a .number)) e
 
   -- whose bytes stand at the start of the assembly buffer
-  pub laid-some : (w : Rebuilt) → a .out ≡ some w → x .out ≡ splice out 0 (w .bytes)
+  pub laid-some : (w : Rebuilt) → a .out ≡ some w → x .left .out ≡ splice out 0 (w .bytes)
   unfolding laidOut
   laid-some w e = g .delivered ∙ ap (laidOut out) e

@@ -16,7 +16,7 @@ use Rattle.reassembly.specs.Record.{headAt, withHead, pieceAt}
 use Rattle.reassembly.specs.Slots.{isFree}
 use Rattle.reassembly.specs.Judge.{misfits, moreOf, grownBy, isComplete, noHead}
 use Rattle.reassembly.specs.Message.{pieceOr, joinedBelow, messageOf, joinsOutside}
-use Rattle.reassembly.specs.Calls.{after, bare, keptRec, keptRoom, finished}
+use Rattle.reassembly.specs.Calls.{lent, after, bare, keptRec, keptRoom, finished}
 use Rattle.reassembly.specs.Stands.{series, tableAt, messageWith, slotAt, stands, Fine, Made, labelOf, replyFor, laidOut, Agrees}
 use Rattle.reassembly.proofs.Branches.{good-size}
 use Rattle.reassembly.proofs.Joined.{piece-given, piece-held}
@@ -29,7 +29,7 @@ use Rattle.reassembly.proofs.Answers.{number-small, repeats-free, clash
 use Rattle.reassembly.proofs.Stores as Stores
 
 -- a refusal changes nothing
-pub refusal : (rec room out : List ℕ) (n : ℕ) → Made rec room → Agrees out (after (bare n) rec room out) (refused n (stands rec room))
+pub refusal : (rec room out : List ℕ) (n : ℕ) → Made rec room → Agrees out (after (bare n) (lent rec room out)) (refused n (stands rec room))
 unfolding refused replyFor laidOut
 refusal rec room out n m = record { reply = refl; delivered = refl; store = refl; made = m }
 
@@ -157,7 +157,7 @@ module _ (h : Head) (rec room : List ℕ) (i : ℕ) (f : Fine h rec room i) (rlo
 
     -- the piece is kept, in a record that differs from one that calls made in slot i alone
     pub kept-agrees : (rec₀ : List ℕ) → Made rec₀ room → Others rec₀ room rec room i
-        → Agrees out (after (bare 0) rec′ room′ out) (record { number = 0; out = none; store = set (stands rec₀ room) i (some (plus m p)) })
+        → Agrees out (after (bare 0) (lent rec′ room′ out)) (record { number = 0; out = none; store = set (stands rec₀ room) i (some (plus m p)) })
     unfolding replyFor laidOut
     kept-agrees rec₀ made o =
         let o′ : Others rec₀ room rec′ room′ i = others-both rec₀ room rec room rec′ room′ i o (others-kept rec room i (l .number) (h .total) v g rlong long hi (number-small p gn) fits) in
@@ -173,11 +173,11 @@ module _ (h : Head) (rec room : List ℕ) (i : ℕ) (f : Fine h rec room i) (rlo
     joins = joins-inside h rec room i f long hi (l .number) (g .last + 1) (omega (arith, fine′ .last-small))
 
     -- the message is finished
-    pub finished-agrees : Made rec room → isComplete g ≡ true → s ≡ stands rec room → Agrees out (finished rec room out i l g v) (answer (length out) s p i m)
-    finished-agrees made w es = subst (λ (a : Answer). Agrees out (finished rec room out i l g v) a) (sym (answer-whole w)) (go (ltb (length out) (length (messageOf rec room i (l .number) v (g .last + 1)))) refl)
+    pub finished-agrees : Made rec room → isComplete g ≡ true → s ≡ stands rec room → Agrees out (finished (lent rec room out) i l g v) (answer (length out) s p i m)
+    finished-agrees made w es = subst (λ (a : Answer). Agrees out (finished (lent rec room out) i l g v) a) (sym (answer-whole w)) (go (ltb (length out) (length (messageOf rec room i (l .number) v (g .last + 1)))) refl)
       where
         go : (b : Bool) → ltb (length out) (length (messageOf rec room i (l .number) v (g .last + 1))) ≡ b
-            → Agrees out (finished rec room out i l g v) (cond (tooShort (length out) (plus m p)) (refused 56 s) (record { number = 60; out = some (rebuiltOf (plus m p)); store = set s i none }))
+            → Agrees out (finished (lent rec room out) i l g v) (cond (tooShort (length out) (plus m p)) (refused 56 s) (record { number = 60; out = some (rebuiltOf (plus m p)); store = set s i none }))
         go true e = unfold finished in rw (joins, short-is, e, es) (refusal rec room out 56 made)
         go false e = unfold finished in rw (joins, short-is, e, es, whole-of)
             (record {

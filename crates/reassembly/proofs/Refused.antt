@@ -14,7 +14,7 @@ use Rattle.reassembly.specs.Record.{headAt, entryAt, outside, pieceAt}
 use Rattle.reassembly.specs.Slots.{firstFrom, isOpenAs, isFree}
 use Rattle.reassembly.specs.Judge.{sameLabel, again, misfits, grownBy, isComplete}
 use Rattle.reassembly.specs.Message.{messageOf, joinsOutside}
-use Rattle.reassembly.specs.Calls.{After, bare, finished, putIn, compared, added, openedIn, openedNow, takenPiece, lentShort, badSize, offNumber, firstCall, followOnCall, renewed, renewal}
+use Rattle.reassembly.specs.Calls.{Lent, After, bare, finished, putIn, compared, added, openedIn, openedNow, takenPiece, lentShort, badSize, offNumber, firstCall, followOnCall, renewed, renewal}
 
 -- kept and finished, then the refusals of a first piece, and of a follow-on
 abbrev pub firstNumbers : List ℕ
@@ -40,39 +40,39 @@ says-compared rec room i h l v = go (outside (entryAt rec i (l .number))) (sameL
     go false true = inr (inr (inr (inr (inr (inl refl)))))
     go false false = inr (inr (inr (inr (inr (inr (inl refl))))))
 
-module _ (rec room out : List ℕ) (l : Label) (v : List ℕ) where
-  says-finished : (i : ℕ) (g : Head) → Says (finished rec room out i l g v)
+module _ (x : Lent) (l : Label) (v : List ℕ) where
+  says-finished : (i : ℕ) (g : Head) → Says (finished x i l g v)
   unfolding finished bare
   says-finished i g =
-      both (joinsOutside rec i (l .number) (g .last + 1)) _ _ (inr (inr (inr (inr (inr (inr (inr (inr refl))))))))
-      (both (ltb (length out) (length (messageOf rec room i (l .number) v (g .last + 1)))) _ _ (inr (inr (inr (inr (inr (inr (inr (inl refl)))))))) (inr (inl refl)))
+      both (joinsOutside (x .rec) i (l .number) (g .last + 1)) _ _ (inr (inr (inr (inr (inr (inr (inr (inr refl))))))))
+      (both (ltb (length (x .out)) (length (messageOf (x .rec) (x .room) i (l .number) v (g .last + 1)))) _ _ (inr (inr (inr (inr (inr (inr (inr (inl refl)))))))) (inr (inl refl)))
 
-  says-put : (i : ℕ) (h : Head) → Says (putIn rec room out i h l v)
+  says-put : (i : ℕ) (h : Head) → Says (putIn x i h l v)
   unfolding putIn bare
   says-put i h =
       both (ltb 65535 (h .total + length v)) _ _ (inr (inr (inr (inr (inl refl)))))
       (both (isComplete (grownBy h l (length v))) _ _ (says-finished i (grownBy h l (length v))) (inl refl))
 
-  says-added : (i : ℕ) → Says (added rec room out i l v)
+  says-added : (i : ℕ) → Says (added x i l v)
   unfolding added bare
   says-added i =
-      both (eqb (entryAt rec i (l .number) .len) 0) _ _
-      (both (misfits (headAt rec i) l) _ _ (inr (inr (inr (inr (inr (inr (inl refl))))))) (says-put i (headAt rec i)))
-      (says-compared rec room i (headAt rec i) l v)
+      both (eqb (entryAt (x .rec) i (l .number) .len) 0) _ _
+      (both (misfits (headAt (x .rec) i) l) _ _ (inr (inr (inr (inr (inr (inr (inl refl))))))) (says-put i (headAt (x .rec) i)))
+      (says-compared (x .rec) (x .room) i (headAt (x .rec) i) l v)
 
-  says-taken : (second : ℕ) → Says (takenPiece rec room out l second v)
+  says-taken : (second : ℕ) → Says (takenPiece x l second v)
   unfolding takenPiece openedNow openedIn bare
   says-taken second =
-      both (ltb (firstFrom (isOpenAs rec (l .id)) 0 16) 16) _ _
-      (says-added (firstFrom (isOpenAs rec (l .id)) 0 16))
-      (both (leb 16 (firstFrom (isFree rec) 0 16)) _ _ (inr (inr (inr (inl refl)))) (inl refl))
+      both (ltb (firstFrom (isOpenAs (x .rec) (l .id)) 0 16) 16) _ _
+      (says-added (firstFrom (isOpenAs (x .rec) (l .id)) 0 16))
+      (both (leb 16 (firstFrom (isFree (x .rec)) 0 16)) _ _ (inr (inr (inr (inl refl)))) (inl refl))
 
 -- 59, 50, then the others
-pub first-numbers : (rec room out : List ℕ) (l : Label) (second : ℕ) (v : List ℕ) → OneOf firstNumbers (firstCall rec room out l second v .reply .number)
+pub first-numbers : (x : Lent) (l : Label) (second : ℕ) (v : List ℕ) → OneOf firstNumbers (firstCall x l second v .reply .number)
 unfolding firstCall bare
-first-numbers rec room out l second v =
-    both (lentShort rec room) _ _ (inr (inr (inr (inr (inr (inr (inr (inr refl))))))))
-    (both (badSize (length v)) _ _ (inr (inr (inl refl))) (says-taken rec room out l v second))
+first-numbers x l second v =
+    both (lentShort (x .rec) (x .room)) _ _ (inr (inr (inr (inr (inr (inr (inr (inr refl))))))))
+    (both (badSize (length v)) _ _ (inr (inr (inl refl))) (says-taken x l v second))
 
 -- a follow-on's numbers are a first piece's, and 51
 pub of-first : (n : ℕ) → OneOf firstNumbers n → OneOf followOnNumbers n
@@ -81,16 +81,16 @@ of-first n (inr (inl e)) = inr (inl e)
 of-first n (inr (inr (inl e))) = inr (inr (inl e))
 of-first n (inr (inr (inr e))) = inr (inr (inr (inr e)))
 
-pub follow-on-numbers : (rec room out : List ℕ) (l : Label) (second : ℕ) (v : List ℕ) → OneOf followOnNumbers (followOnCall rec room out l second v .reply .number)
+pub follow-on-numbers : (x : Lent) (l : Label) (second : ℕ) (v : List ℕ) → OneOf followOnNumbers (followOnCall x l second v .reply .number)
 unfolding followOnCall bare
-follow-on-numbers rec room out l second v =
-    either (lentShort rec room) _ _ (inr (inr (inr (inr (inr (inr (inr (inr (inr refl)))))))))
+follow-on-numbers x l second v =
+    either (lentShort (x .rec) (x .room)) _ _ (inr (inr (inr (inr (inr (inr (inr (inr (inr refl)))))))))
     (either (badSize (length v)) _ _ (inr (inr (inl refl)))
-    (either (offNumber (l .number)) _ _ (inr (inr (inr (inl refl)))) (of-first _ (says-taken rec room out l v second))))
+    (either (offNumber (l .number)) _ _ (inr (inr (inr (inl refl)))) (of-first _ (says-taken x l v second))))
   where
-    either : (b : Bool) (x y : After) → OneOf followOnNumbers (x .reply .number) → OneOf followOnNumbers (y .reply .number) → OneOf followOnNumbers (cond b x y .reply .number)
-    either true x y p q = p
-    either false x y p q = q
+    either : (b : Bool) (y z : After) → OneOf followOnNumbers (y .reply .number) → OneOf followOnNumbers (z .reply .number) → OneOf followOnNumbers (cond b y z .reply .number)
+    either true y z p q = p
+    either false y z p q = q
 
 -- a record that is not made new stays
 pub renew-leaves : (rec : List ℕ) → (renewal rec ≡ 0 → ⊥) → renewed rec ≡ rec

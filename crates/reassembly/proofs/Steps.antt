@@ -15,7 +15,7 @@ use Rattle.reassembly.specs.Store.{Piece, first, follow, idOf, pieceByte
 use Rattle.reassembly.specs.Record.{headAt, entryAt, outside, pieceAt, cleared}
 use Rattle.reassembly.specs.Slots.{firstFrom, isOpenAs, isFree}
 use Rattle.reassembly.specs.Judge.{sameLabel, again, misfits, grownBy, isComplete, newHead}
-use Rattle.reassembly.specs.Calls.{After, after, bare, keptRec, keptRoom, putIn, compared, added, openedIn, openedNow, takenPiece, lentShort, badSize, offNumber, firstCall, followOnCall}
+use Rattle.reassembly.specs.Calls.{lent, After, after, bare, keptRec, keptRoom, putIn, compared, added, openedIn, openedNow, takenPiece, lentShort, badSize, offNumber, firstCall, followOnCall}
 use Rattle.reassembly.specs.Stands.{series, tableAt, messageWith, slotAt, stands, Fine, Made, labelOf, Agrees}
 use Rattle.reassembly.proofs.Series.{length-series, getD-series, isNone, hasId, found-is, vacant-is, first-passes, free-none}
 use Rattle.reassembly.proofs.Written.{length-cleared}
@@ -26,7 +26,7 @@ use Rattle.reassembly.proofs.Refines.{refusal, size-of, answer-53, answ
 use Rattle.reassembly.proofs.Fresh.{none-held, fresh-is, fresh-fine, fresh-fits, fresh-part}
 
 -- what every number of a call fits in
-pub record Fits (p : Piece) (second : ℕ) : Type 0 where
+pub record PieceInWidth (p : Piece) (second : ℕ) : Type 0 where
   pub id : labelOf p .id < 4294967296
   pub expires : labelOf p .expires < 4294967296
   pub second-fits : second < 18446744073709551616
@@ -34,7 +34,7 @@ pub record Fits (p : Piece) (second : ℕ) : Type 0 where
 others-none : (rec room : List ℕ) (i : ℕ) → Others rec room rec room i
 others-none rec room i = record { heads = λ j h q. refl; entries = λ j k h q hk. refl; rooms = λ j h q. refl }
 
-module _ (rec room out : List ℕ) (made : Made rec room) (p : Piece) (second : ℕ) (gl : badLength p ≡ false) (gn : badNumber p ≡ false) (fit : Fits p second) where
+module _ (rec room out : List ℕ) (made : Made rec room) (p : Piece) (second : ℕ) (gl : badLength p ≡ false) (gn : badNumber p ≡ false) (fit : PieceInWidth p second) where
   abbrev l : Label
   l = labelOf p
 
@@ -58,11 +58,11 @@ module _ (rec room out : List ℕ) (made : Made rec room) (p : Piece) (second : 
     held-as : (b : Bool) → eqb (entryAt rec i (l .number) .len) 0 ≡ b → isHeld (getD (tableAt rec room i) (l .number) []) ≡ not b
     held-as b e = held-is h rec room i f (made .room-long) hi (l .number) (number-small p gn) ∙ ap not e
 
-    put-agrees : isHeld (getD (tableAt rec room i) (l .number) []) ≡ false → misfits h l ≡ false → Agrees out (putIn rec room out i h l v) (answer (length out) s p i m)
+    put-agrees : isHeld (getD (tableAt rec room i) (l .number) []) ≡ false → misfits h l ≡ false → Agrees out (putIn (lent rec room out) i h l v) (answer (length out) s p i m)
     unfolding putIn
     put-agrees free ok = go (ltb 65535 (h .total + length v)) refl (isComplete (grownBy h l (length v))) refl
       where
-        go : (b : Bool) → ltb 65535 (h .total + length v) ≡ b → (c : Bool) → isComplete (grownBy h l (length v)) ≡ c → Agrees out (putIn rec room out i h l v) (answer (length out) s p i m)
+        go : (b : Bool) → ltb 65535 (h .total + length v) ≡ b → (c : Bool) → isComplete (grownBy h l (length v)) ≡ c → Agrees out (putIn (lent rec room out) i h l v) (answer (length out) s p i m)
         go true e c w =
             let a : answer (length out) s p i m ≡ refused 53 s
             = answer-53 h rec room i f (made .record-long) (made .room-long) hi p gl gn (fit .expires) free ok out s (ltb-true 65535 (h .total + length v) e) in
@@ -76,7 +76,7 @@ module _ (rec room out : List ℕ) (made : Made rec room) (p : Piece) (second : 
             rw (e, w, a)
             (kept-agrees h rec room i f (made .record-long) (made .room-long) hi p gl gn (fit .expires) free ok out s (ltb-false 65535 (h .total + length v) e) rec made (others-none rec room i))
 
-    added-agrees : Agrees out (added rec room out i l v) (answer (length out) s p i m)
+    added-agrees : Agrees out (added (lent rec room out) i l v) (answer (length out) s p i m)
     unfolding added compared again answer
     added-agrees = go (eqb (entryAt rec i (l .number) .len) 0) refl
       where
@@ -84,7 +84,7 @@ module _ (rec room out : List ℕ) (made : Made rec room) (p : Piece) (second : 
         inside = never-outside h rec room i f (made .room-long) hi (l .number) (number-small p gn)
 
         repeated : (c : Bool) → isHeld (getD (tableAt rec room i) (l .number) []) ≡ true → (sameLabel h l && same (pieceAt rec room i (l .number)) v) ≡ c
-            → Agrees out (after (bare (compared rec room i h l v)) rec room out) (answer (length out) s p i m)
+            → Agrees out (after (bare (compared rec room i h l v)) (lent rec room out)) (answer (length out) s p i m)
         repeated true t q =
             let r : repeats m p ≡ true = repeats-held h rec room i f (made .room-long) hi p gn t ∙ q in
             rw (inside, q, gl, gn, r) (refusal rec room out 54 made)
@@ -94,14 +94,14 @@ module _ (rec room out : List ℕ) (made : Made rec room) (p : Piece) (second : 
             rw (inside, q, gl, gn, r, c) (refusal rec room out 55 made)
 
         fitting : (c : Bool) → isHeld (getD (tableAt rec room i) (l .number) []) ≡ false → misfits h l ≡ c
-            → Agrees out (cond (misfits h l) (after (bare 55) rec room out) (putIn rec room out i h l v)) (answer (length out) s p i m)
+            → Agrees out (cond (misfits h l) (after (bare 55) (lent rec room out)) (putIn (lent rec room out) i h l v)) (answer (length out) s p i m)
         fitting true t q =
             let r : repeats m p ≡ false = repeats-free h rec room i f (made .room-long) hi p gn t in
             let c : clashes m p ≡ true = clashes-free h rec room i f (made .room-long) hi p gn t ∙ q in
             rw (q, gl, gn, r, c) (refusal rec room out 55 made)
         fitting false t q = rw q (put-agrees t q)
 
-        go : (b : Bool) → eqb (entryAt rec i (l .number) .len) 0 ≡ b → Agrees out (added rec room out i l v) (answer (length out) s p i m)
+        go : (b : Bool) → eqb (entryAt rec i (l .number) .len) 0 ≡ b → Agrees out (added (lent rec room out) i l v) (answer (length out) s p i m)
         go false e = rw e (repeated (sameLabel h l && same (pieceAt rec room i (l .number)) v) (held-as false e) refl)
         go true e = rw e (fitting (misfits h l) (held-as true e) refl)
 
@@ -110,7 +110,7 @@ module _ (rec room out : List ℕ) (made : Made rec room) (p : Piece) (second : 
     abbrev h₀ : Head
     h₀ = newHead l second
 
-    opened-agrees : Agrees out (openedIn rec room out i l second v) (answer (length out) s p i (messageOr none (idOf p) second))
+    opened-agrees : Agrees out (openedIn (lent rec room out) i l second v) (answer (length out) s p i (messageOr none (idOf p) second))
     opened-agrees = rw (fresh-is rec room i (made .record-long) hi p second, a) in-slot
       where
         long₁ : 8576 ≤ length (cleared rec i)
@@ -128,11 +128,11 @@ module _ (rec room out : List ℕ) (made : Made rec room) (p : Piece) (second : 
         a : answer (length out) s p i (messageWith h₀ (cleared rec i) room i) ≡ record { number = 0; out = none; store = set s i (some (plus (messageWith h₀ (cleared rec i) room i) p)) }
         a = answer-kept h₀ (cleared rec i) room i f₀ long₁ (made .room-long) hi p gl gn (fit .expires) free₀ (fresh-fits l second) out s fits₀ (fresh-part l second (length v))
 
-        k : Agrees out (after (bare 0) (keptRec (cleared rec i) i (l .number) (h₀ .total) (length v) (grownBy h₀ l (length v))) (keptRoom room i (h₀ .total) v) out)
+        k : Agrees out (after (bare 0) (lent (keptRec (cleared rec i) i (l .number) (h₀ .total) (length v) (grownBy h₀ l (length v))) (keptRoom room i (h₀ .total) v) out))
             (record { number = 0; out = none; store = set s i (some (plus (messageWith h₀ (cleared rec i) room i) p)) })
         k = kept-agrees h₀ (cleared rec i) room i f₀ long₁ (made .room-long) hi p gl gn (fit .expires) free₀ (fresh-fits l second) out s fits₀ rec made (others-cleared rec room i (made .record-long) hi)
 
-        in-slot : Agrees out (openedIn rec room out i l second v) (record { number = 0; out = none; store = set s i (some (plus (messageWith h₀ (cleared rec i) room i) p)) })
+        in-slot : Agrees out (openedIn (lent rec room out) i l second v) (record { number = 0; out = none; store = set s i (some (plus (messageWith h₀ (cleared rec i) room i) p)) })
         in-slot = unfold openedIn newHead in k
 
   -- the slot tests of the record are those of the store
@@ -207,12 +207,12 @@ module _ (rec room out : List ℕ) (made : Made rec room) (p : Piece) (second : 
       = ap (λ (z : Message). clashes z p) e ∙ clashes-free (newHead l second) (cleared rec 0) room 0 f₀ (made .room-long) zero-in p gn free₀ ∙ fresh-fits l second in
       rw (gl, gn, r, c, le-leb 16 k n) refl
 
-  pub taken-agrees : Agrees out (takenPiece rec room out l second v) (step (length out) s p second)
+  pub taken-agrees : Agrees out (takenPiece (lent rec room out) l second v) (step (length out) s p second)
   unfolding takenPiece openedNow
   taken-agrees = go (ltb (firstFrom (isOpenAs rec (l .id)) 0 16) 16) refl (leb 16 (firstFrom (isFree rec) 0 16)) refl
     where
       go : (b : Bool) → ltb (firstFrom (isOpenAs rec (l .id)) 0 16) 16 ≡ b → (c : Bool) → leb 16 (firstFrom (isFree rec) 0 16) ≡ c
-          → Agrees out (takenPiece rec room out l second v) (step (length out) s p second)
+          → Agrees out (takenPiece (lent rec room out) l second v) (step (length out) s p second)
       go true e c q =
           let k : ℕ = firstFrom (isOpenAs rec (l .id)) 0 16 in
           let hk : firstFrom (isOpenAs rec (l .id)) 0 16 < 16 = ltb-true (firstFrom (isOpenAs rec (l .id)) 0 16) 16 e in
@@ -240,13 +240,13 @@ unfolding step answer
 step-51 cap s p second e n = rw (e, n) refl
 
 -- a first piece, and a follow-on piece, of any length and number
-pub first-agrees : (rec room out : List ℕ) (made : Made rec room) (id kind expires second : ℕ) (bytes : List ℕ) → Fits (first id kind expires bytes) second
-    → Agrees out (firstCall rec room out (labelOf (first id kind expires bytes)) second bytes) (step (length out) (stands rec room) (first id kind expires bytes) second)
+pub first-agrees : (rec room out : List ℕ) (made : Made rec room) (id kind expires second : ℕ) (bytes : List ℕ) → PieceInWidth (first id kind expires bytes) second
+    → Agrees out (firstCall (lent rec room out) (labelOf (first id kind expires bytes)) second bytes) (step (length out) (stands rec room) (first id kind expires bytes) second)
 unfolding firstCall pieceBytes badNumber
 first-agrees rec room out made id kind expires second bytes fit = go (badSize (length bytes)) refl
   where
     go : (b : Bool) → badSize (length bytes) ≡ b
-        → Agrees out (firstCall rec room out (labelOf (first id kind expires bytes)) second bytes) (step (length out) (stands rec room) (first id kind expires bytes) second)
+        → Agrees out (firstCall (lent rec room out) (labelOf (first id kind expires bytes)) second bytes) (step (length out) (stands rec room) (first id kind expires bytes) second)
     go true e =
         rw (long-enough rec room made, e, step-50 (length out) (stands rec room) (first id kind expires bytes) second (good-length (first id kind expires bytes) ∙ e))
         (refusal rec room out 50 made)
@@ -254,13 +254,13 @@ first-agrees rec room out made id kind expires second bytes fit = go (badSize (l
         rw (long-enough rec room made, e)
         (taken-agrees rec room out made (first id kind expires bytes) second (good-length (first id kind expires bytes) ∙ e) refl fit)
 
-pub follow-agrees : (rec room out : List ℕ) (made : Made rec room) (id number : ℕ) (final : Bool) (second : ℕ) (bytes : List ℕ) → Fits (follow id number final bytes) second
-    → Agrees out (followOnCall rec room out (labelOf (follow id number final bytes)) second bytes) (step (length out) (stands rec room) (follow id number final bytes) second)
+pub follow-agrees : (rec room out : List ℕ) (made : Made rec room) (id number : ℕ) (final : Bool) (second : ℕ) (bytes : List ℕ) → PieceInWidth (follow id number final bytes) second
+    → Agrees out (followOnCall (lent rec room out) (labelOf (follow id number final bytes)) second bytes) (step (length out) (stands rec room) (follow id number final bytes) second)
 unfolding followOnCall pieceBytes badNumber offNumber labelOf
 follow-agrees rec room out made id number final second bytes fit = go (badSize (length bytes)) refl (eqb number 0 || ltb 127 number) refl
   where
     go : (b : Bool) → badSize (length bytes) ≡ b → (c : Bool) → (eqb number 0 || ltb 127 number) ≡ c
-        → Agrees out (followOnCall rec room out (labelOf (follow id number final bytes)) second bytes) (step (length out) (stands rec room) (follow id number final bytes) second)
+        → Agrees out (followOnCall (lent rec room out) (labelOf (follow id number final bytes)) second bytes) (step (length out) (stands rec room) (follow id number final bytes) second)
     go true e c n =
         rw (long-enough rec room made, e, step-50 (length out) (stands rec room) (follow id number final bytes) second (good-length (follow id number final bytes) ∙ e))
         (refusal rec room out 50 made)
@@ -273,7 +273,7 @@ follow-agrees rec room out made id number final second bytes fit = go (badSize (
 
 -- The promises of the calls, from the equations that they state.
 pub first-promise : (rec room out : List ℕ) (id kind expires second : ℕ) (bytes : List ℕ) (x : After) → id < 4294967296 → expires < 4294967296 → second < 18446744073709551616
-    → x ≡ firstCall rec room out (record { id = id; number = 0; last = false; kind = kind; expires = expires }) second bytes
+    → x ≡ firstCall (lent rec room out) (record { id = id; number = 0; last = false; kind = kind; expires = expires }) second bytes
     → Made rec room → Agrees out x (step (length out) (stands rec room) (first id kind expires bytes) second)
 unfolding labelOf
 first-promise rec room out id kind expires second bytes x hi hx hs e made =
@@ -281,7 +281,7 @@ first-promise rec room out id kind expires second bytes x hi hx hs e made =
     (first-agrees rec room out made id kind expires second bytes (record { id = hi; expires = hx; second-fits = hs }))
 
 pub follow-promise : (rec room out : List ℕ) (id number : ℕ) (final : Bool) (second : ℕ) (bytes : List ℕ) (x : After) → id < 4294967296 → second < 18446744073709551616
-    → x ≡ followOnCall rec room out (record { id = id; number = number; last = final; kind = 0; expires = 0 }) second bytes
+    → x ≡ followOnCall (lent rec room out) (record { id = id; number = number; last = final; kind = 0; expires = 0 }) second bytes
     → Made rec room → Agrees out x (step (length out) (stands rec room) (follow id number final bytes) second)
 unfolding labelOf
 follow-promise rec room out id number final second bytes x hi hs e made =

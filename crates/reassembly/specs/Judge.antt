@@ -41,7 +41,8 @@ grownBy h l n =
       kind = pick (eqb (l .number) 0) (l .kind) (h .kind);
     }
 
--- a last number is known, and as many numbers are held as there are up to it
+-- a last number is known, and as many numbers are held as there are up to it. On a record that calls made this is `complete` of specs/Store.antt
+-- (proofs/Kept `complete-is`), since 55 has kept out every number above the last
 unfoldable pub isComplete : Head → Bool
 isComplete h = ltb 0 (h .last) && ltb (h .last) 128 && eqb (h .count) (h .last + 1)
 

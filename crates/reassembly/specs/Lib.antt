@@ -1,4 +1,5 @@
 -- What the contracts of the store and of the crates below it cite.
+pub mod Sizes
 pub mod Store
 pub mod Record
 pub mod Slots

@@ -6,6 +6,7 @@ use lib.Dec.{ltb}
 use lib.ListN.{getD, replicate}
 use Rattle.wire.specs.Parts.{part, splice}
 use Rattle.wire.specs.Numbers.{littleAt, littleBytes}
+use Rattle.reassembly.specs.Sizes.{slotSize, headSize, tablesAt, entrySize, tableSize}
 use Rattle.reassembly.specs.declared.Head.{Head}
 use Rattle.reassembly.specs.declared.Entry.{Entry}
 
@@ -28,29 +29,33 @@ entryBytes e = littleBytes 2 (e .place) ++ littleBytes 2 (e .len)
 
 -- slot i's head, and the record with another there
 unfoldable pub headAt : List ℕ → ℕ → Head
-headAt rec i = headOf (part rec (i * 24) 24)
+headAt rec i = headOf (part rec (i * headSize) headSize)
 
 unfoldable pub withHead : List ℕ → ℕ → Head → List ℕ
-withHead rec i h = splice rec (i * 24) (headBytes h)
+withHead rec i h = splice rec (i * headSize) (headBytes h)
+
+-- where the entry of number k in slot i stands
+abbrev pub entryPlace : ℕ → ℕ → ℕ
+entryPlace i k = tablesAt + i * tableSize + k * entrySize
 
 -- the entry of number k in slot i, and the record with another there
 unfoldable pub entryAt : List ℕ → ℕ → ℕ → Entry
-entryAt rec i k = entryOf (part rec (384 + i * 512 + k * 4) 4)
+entryAt rec i k = entryOf (part rec (entryPlace i k) entrySize)
 
 unfoldable pub withEntry : List ℕ → ℕ → ℕ → Entry → List ℕ
-withEntry rec i k e = splice rec (384 + i * 512 + k * 4) (entryBytes e)
+withEntry rec i k e = splice rec (entryPlace i k) (entryBytes e)
 
 -- the record with no number of slot i held
 unfoldable pub cleared : List ℕ → ℕ → List ℕ
-cleared rec i = splice rec (384 + i * 512) (replicate 512 0)
+cleared rec i = splice rec (tablesAt + i * tableSize) (replicate tableSize 0)
 
--- an entry names bytes outside its slot's 65,535
+-- an entry names bytes outside its slot's own room
 unfoldable pub outside : Entry → Bool
-outside e = ltb 65535 (e .place + e .len)
+outside e = ltb slotSize (e .place + e .len)
 
 -- slot i's own room, and the bytes that the entry of number k names there
 unfoldable pub roomOf : List ℕ → ℕ → List ℕ
-roomOf room i = part room (i * 65535) 65535
+roomOf room i = part room (i * slotSize) slotSize
 
 unfoldable pub pieceAt : List ℕ → List ℕ → ℕ → ℕ → List ℕ
 pieceAt rec room i k = part (roomOf room i) (entryAt rec i k .place) (entryAt rec i k .len)

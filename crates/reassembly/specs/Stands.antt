@@ -1,4 +1,5 @@
--- What a record and a room stand for: a store of specs/Store.antt; and what it means that a call does on them what the store does.
+-- What a record and a room stand for: a store of specs/Store.antt. Then the invariant of records that calls made (`Fine` for a slot, `Made` for all), and what
+-- it means that a call does on them what the store does and keeps the invariant.
 use mathlib.Core.Path.{_≡_}
 use mathlib.Core.Bool.{true, false, cond}
 use mathlib.Core.List.{List, [], _∷_}
@@ -6,6 +7,7 @@ use mathlib.Core.Option.{Option, none, some}
 use Prim.Native.Nat.{ℕ, zero, suc, _+_, _≤_, _<_}
 use lib.ListN.{length, getD}
 use Rattle.wire.specs.Parts.{splice}
+use Rattle.reassembly.specs.Sizes.{roomSize, recordSize}
 use Rattle.reassembly.specs.declared.Head.{Head}
 use Rattle.reassembly.specs.declared.Label.{Label}
 use Rattle.reassembly.specs.declared.Reply.{Reply}
@@ -40,8 +42,8 @@ abbrev pub heldOf : List (List ℕ) → ℕ
 heldOf [] = 0
 heldOf (x ∷ xs) = cond (isHeld x) 1 0 + heldOf xs
 
--- The head h of slot i agrees with the slot's entries, as every call leaves it: the pieces lie in the first `total` bytes of the slot's room, and
--- are as long together; `count` numbers are held, `top` is the highest; none is above a known last.
+-- The invariant of a slot in use, whose head is h: the head agrees with the slot's entries. The pieces lie in the first `total` bytes of the slot's room
+-- and are as long together; `count` numbers are held, `top` is the highest; none is above a known last.
 pub record Fine (h : Head) (rec room : List ℕ) (i : ℕ) : Type 0 where
   pub id : h .id < 4294967296
   pub opened : h .opened < 18446744073709551616
@@ -55,10 +57,11 @@ pub record Fine (h : Head) (rec room : List ℕ) (i : ℕ) : Type 0 where
   pub last-small : h .last < 128
   pub lastmost : 0 < h .last → (k : ℕ) → isHeld (getD (tableAt rec room i) k []) ≡ true → k ≤ h .last
 
--- A record and a room as the calls leave them. (All zero is one: `NewAgrees`.)
+-- The invariant of a store: record and room have their lengths, and every slot in use meets its own. A new record meets it (`NewAgrees`), and a call that
+-- is lent such a record and room leaves such ones (`Agrees`, `SweepAgrees`): "a record that calls made" means this.
 pub record Made (rec room : List ℕ) : Type 0 where
-  pub record-long : 8576 ≤ length rec
-  pub room-long : 1048560 ≤ length room
+  pub record-long : recordSize ≤ length rec
+  pub room-long : roomSize ≤ length room
   pub slots : (i : ℕ) → i < 16 → isFree rec i ≡ false → Fine (headAt rec i) rec room i
 
 -- what a piece of the store is to a call: a label beside the bytes
@@ -79,16 +82,16 @@ laidOut out (some w) = splice out 0 (w .bytes)
 -- A call did to record, room and assembly buffer what the store's answer says, and left what a call may be lent again.
 pub record Agrees (out : List ℕ) (x : After) (a : Answer) : Type 0 where
   pub reply : x .reply ≡ replyFor (a .number) (a .out)
-  pub delivered : x .out ≡ laidOut out (a .out)
-  pub store : stands (x .rec) (x .room) ≡ a .store
-  pub made : Made (x .rec) (x .room)
+  pub delivered : x .left .out ≡ laidOut out (a .out)
+  pub store : stands (x .left .rec) (x .left .room) ≡ a .store
+  pub made : Made (x .left .rec) (x .left .room)
 
 -- A sweep did to what the record stands for, with any room, what the store's sweep does, and left what a call may be lent again.
 pub record SweepAgrees (second : ℕ) (rec rec′ : List ℕ) : Type 0 where
-  pub store : (room : List ℕ) → 8576 ≤ length rec → stands rec′ room ≡ sweep second (stands rec room)
+  pub store : (room : List ℕ) → recordSize ≤ length rec → stands rec′ room ≡ sweep second (stands rec room)
   pub made : (room : List ℕ) → Made rec room → Made rec′ room
 
 -- A new record stands for the empty store, with any room, and with one of the lent length it is what a call may be lent.
 pub record NewAgrees (rec rec′ : List ℕ) : Type 0 where
-  pub store : (room : List ℕ) → 8576 ≤ length rec → stands rec′ room ≡ empty
-  pub made : (room : List ℕ) → 8576 ≤ length rec → 1048560 ≤ length room → Made rec′ room
+  pub store : (room : List ℕ) → recordSize ≤ length rec → stands rec′ room ≡ empty
+  pub made : (room : List ℕ) → recordSize ≤ length rec → roomSize ≤ length room → Made rec′ room

@@ -6,6 +6,7 @@ use Prim.Native.Nat.{ℕ, suc, _+_}
 use lib.ListN.{length, getD, take, drop, set, replicate}
 use lib.Dec.{ltb, leb, eqb}
 use Rattle.wire.specs.Parts.{same}
+use Rattle.reassembly.specs.Sizes.{messageSize}
 
 -- A piece: a first fragment (number 0, with the message's head) or a follow-on fragment (a number, and whether it is the last).
 pub data Piece : Type 0 where
@@ -130,7 +131,7 @@ clashes m p =
 
 -- 53: the total would pass 65,535
 unfoldable pub tooMuch : Message → Piece → Bool
-tooMuch m p = ltb 65535 (total (m .table) + length (pieceBytes p))
+tooMuch m p = ltb messageSize (total (m .table) + length (pieceBytes p))
 
 -- A last number n is known and all numbers from 0 to n are held.
 unfoldable pub complete : Message → Bool
@@ -177,4 +178,4 @@ sweep second s = map (sweptOne second) s
 -- The numbers that a run of pieces is answered by, all at the second 0, with 65,535 bytes to assemble in.
 abbrev pub stepNumbers : Store → List Piece → List ℕ
 stepNumbers s [] = []
-stepNumbers s (p ∷ ps) = step 65535 s p 0 .number ∷ stepNumbers (step 65535 s p 0 .store) ps
+stepNumbers s (p ∷ ps) = step messageSize s p 0 .number ∷ stepNumbers (step messageSize s p 0 .store) ps

@@ -1,5 +1,23 @@
 // The values that the store of document 01 works with; what is done with them stands in specs/, and the laws of it in proofs/.
 
+// The sizes of specs/Sizes.antt: the most bytes of a message, a slot's part of the room, the room, the record.
+pub const MESSAGE_SIZE: usize = 65535;
+
+pub const SLOT_SIZE: usize = 65535;
+
+pub const ROOM_SIZE: usize = 1048560;
+
+pub const RECORD_SIZE: usize = 8576;
+
+// In the record: a slot's head, where the tables begin, a slot's table and an entry of it.
+pub const HEAD_SIZE: usize = 24;
+
+pub const TABLES_AT: usize = 384;
+
+pub const TABLE_SIZE: usize = 512;
+
+pub const ENTRY_SIZE: usize = 4;
+
 // A slot: the message's id, the second it was opened in, its expiration and type once number 0 is held, the bytes held in all,
 // how many numbers are held (0: the slot is free), the last number (0: not known), the highest number held.
 pub struct Head {

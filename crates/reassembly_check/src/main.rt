@@ -146,7 +146,16 @@ fn call(rec: &mut [u8], room: &mut [u8], out: &mut [u8], l: Line, piece: &[u8]) 
         );
     }
     if l.call == 2 {
-        return reassembly_store::follow_on_fragment(rec, room, out, l.id, a, l.b == 1, l.second, piece);
+        return reassembly_store::follow_on_fragment(
+            rec,
+            room,
+            out,
+            l.id,
+            a,
+            l.b == 1,
+            l.second,
+            piece,
+        );
     }
     if l.call == 3 {
         return Reply {

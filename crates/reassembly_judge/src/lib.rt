@@ -4,6 +4,7 @@ use reassembly::Label;
 use wire::usize_from_u8;
 ghost use mathlib.Core.Path.{_≡_};
 ghost use Prim.Native.Nat.{_+_, _<_, _≤_};
+ghost use Rattle.reassembly.specs.Sizes.{messageSize};
 ghost use Rattle.reassembly.specs.Judge.{pick, sameLabel, again, misfits, moreOf, grownBy, isComplete, newHead, noHead, isOld};
 
 fn pick8(c: bool, a: u8, b: u8) -> u8
@@ -62,7 +63,7 @@ fn more_of(n: u8) -> u8
 
 // The head with a piece of n bytes more.
 pub fn grown(h: Head, l: Label, n: u16) -> Head
-    requires { ⌜ h .total + n ≤ 65535 ⌝ }
+    requires { ⌜ h .total + n ≤ messageSize ⌝ }
     ensures { λ r. ⌜ r ≡ grownBy h l n ⌝ }
 {
     let head = l.number == 0;

@@ -1,14 +1,19 @@
 // The store's record in lent bytes: 16 heads of 24 bytes, then 16 tables of 128 entries of 4 bytes. All zero is the empty store.
+use reassembly::ENTRY_SIZE;
 use reassembly::Entry;
+use reassembly::HEAD_SIZE;
 use reassembly::Head;
+use reassembly::TABLE_SIZE;
+use reassembly::TABLES_AT;
 ghost use mathlib.Core.Path.{_≡_};
 ghost use Prim.Native.Nat.{_+_, _*_, _<_, _≤_};
 ghost use lib.ListN.{length, replicate};
 ghost use Rattle.wire.specs.Parts.{splice};
+ghost use Rattle.reassembly.specs.Sizes.{headSize, entrySize, recordSize};
 ghost use Rattle.reassembly.specs.Record.{headOf, entryOf, headAt, withHead, entryAt, withEntry, cleared};
 
 fn head_of(b: &[u8]) -> Head
-    requires { ⌜ length (now b) ≡ 24 ⌝ }
+    requires { ⌜ length (now b) ≡ headSize ⌝ }
     ensures { λ r. ⌜ r ≡ headOf (now (b .entry)) ⌝ }
 {
     Head {
@@ -25,19 +30,19 @@ fn head_of(b: &[u8]) -> Head
 
 // The head of slot i.
 pub fn load_head(rec: &[u8], i: usize) -> Head
-    requires { ⌜ (8576 ≤ length (now rec)) × (i < 16) ⌝ }
+    requires { ⌜ (recordSize ≤ length (now rec)) × (i < 16) ⌝ }
     ensures { λ r. ⌜ r ≡ headAt (now (rec .entry)) i ⌝ }
 {
-    let a = i * 24;
-    let e = a + 24;
+    let a = i * HEAD_SIZE;
+    let e = a + HEAD_SIZE;
     head_of(&rec[a..e])
 }
 
 pub fn save_head(rec: &mut [u8], i: usize, h: Head)
-    requires { ⌜ (8576 ≤ length (now rec)) × (i < 16) ⌝ }
+    requires { ⌜ (recordSize ≤ length (now rec)) × (i < 16) ⌝ }
     ensures { λ _. ⌜ now (rec .exit) ≡ withHead (now (rec .entry)) i h ⌝ }
 {
-    let at = i * 24;
+    let at = i * HEAD_SIZE;
     wire_numbers::put_u32_le(rec, at, h.id);
     wire_numbers::put_u64_le(rec, at + 4, h.opened);
     wire_numbers::put_u32_le(rec, at + 12, h.expires);
@@ -47,7 +52,7 @@ pub fn save_head(rec: &mut [u8], i: usize, h: Head)
 }
 
 fn entry_of(b: &[u8]) -> Entry
-    requires { ⌜ length (now b) ≡ 4 ⌝ }
+    requires { ⌜ length (now b) ≡ entrySize ⌝ }
     ensures { λ r. ⌜ r ≡ entryOf (now (b .entry)) ⌝ }
 {
     Entry {
@@ -58,19 +63,19 @@ fn entry_of(b: &[u8]) -> Entry
 
 // The entry of number k in slot i.
 pub fn load_entry(rec: &[u8], i: usize, k: usize) -> Entry
-    requires { ⌜ (8576 ≤ length (now rec)) × (i < 16) × (k < 128) ⌝ }
+    requires { ⌜ (recordSize ≤ length (now rec)) × (i < 16) × (k < 128) ⌝ }
     ensures { λ r. ⌜ r ≡ entryAt (now (rec .entry)) i k ⌝ }
 {
-    let a = 384 + i * 512 + k * 4;
-    let e = a + 4;
+    let a = TABLES_AT + i * TABLE_SIZE + k * ENTRY_SIZE;
+    let e = a + ENTRY_SIZE;
     entry_of(&rec[a..e])
 }
 
 pub fn save_entry(rec: &mut [u8], i: usize, k: usize, e: Entry)
-    requires { ⌜ (8576 ≤ length (now rec)) × (i < 16) × (k < 128) ⌝ }
+    requires { ⌜ (recordSize ≤ length (now rec)) × (i < 16) × (k < 128) ⌝ }
     ensures { λ _. ⌜ now (rec .exit) ≡ withEntry (now (rec .entry)) i k e ⌝ }
 {
-    let at = 384 + i * 512 + k * 4;
+    let at = TABLES_AT + i * TABLE_SIZE + k * ENTRY_SIZE;
     wire_numbers::put_u16_le(rec, at, e.place);
     wire_numbers::put_u16_le(rec, at + 2, e.len);
 }
@@ -89,8 +94,8 @@ pub fn clear(b: &mut [u8], at: usize, n: usize)
 
 // No number of slot i is held.
 pub fn clear_entries(rec: &mut [u8], i: usize)
-    requires { ⌜ (8576 ≤ length (now rec)) × (i < 16) ⌝ }
+    requires { ⌜ (recordSize ≤ length (now rec)) × (i < 16) ⌝ }
     ensures { λ _. ⌜ now (rec .exit) ≡ cleared (now (rec .entry)) i ⌝ }
 {
-    clear(rec, 384 + i * 512, 512);
+    clear(rec, TABLES_AT + i * TABLE_SIZE, TABLE_SIZE);
 }

@@ -7,6 +7,7 @@ ghost use mathlib.Core.Bool.{_&&_, not};
 ghost use Prim.Native.Nat.{_≤_};
 ghost use lib.Dec.{eqb};
 ghost use lib.ListN.{length};
+ghost use Rattle.reassembly.specs.Sizes.{recordSize};
 ghost use Rattle.reassembly.specs.Slots.{firstFrom, isOpenAs, isFree};
 
 fn opened_as(h: Head, id: u32) -> bool
@@ -17,7 +18,7 @@ fn opened_as(h: Head, id: u32) -> bool
 
 // The slot of the open message with an id, or 16.
 pub fn find(rec: &[u8], id: u32) -> usize
-    requires { ⌜ 8576 ≤ length (now rec) ⌝ }
+    requires { ⌜ recordSize ≤ length (now rec) ⌝ }
     ensures { λ r. ⌜ r ≡ firstFrom (isOpenAs (now (rec .entry)) id) 0 16 ⌝ }
 {
     let mut i = 0;
@@ -38,7 +39,7 @@ fn unused(h: Head) -> bool
 
 // The first free slot, or 16.
 pub fn vacant(rec: &[u8]) -> usize
-    requires { ⌜ 8576 ≤ length (now rec) ⌝ }
+    requires { ⌜ recordSize ≤ length (now rec) ⌝ }
     ensures { λ r. ⌜ r ≡ firstFrom (isFree (now (rec .entry))) 0 16 ⌝ }
 {
     let mut i = 0;

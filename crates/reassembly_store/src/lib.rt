@@ -1,5 +1,7 @@
 // Pieces of messages, put together: the store of document 01.
 use reassembly::Label;
+use reassembly::RECORD_SIZE;
+use reassembly::ROOM_SIZE;
 use reassembly::Reply;
 use reassembly_taking::bare;
 use reassembly_taking::take;
@@ -7,15 +9,16 @@ ghost use mathlib.Core.Path.{_≡_};
 ghost use mathlib.Core.Bool.{false, cond};
 ghost use Prim.Native.Nat.{_<_, _≤_};
 ghost use lib.ListN.{length};
+ghost use Rattle.reassembly.specs.Sizes.{recordSize};
 ghost use Rattle.reassembly.specs.Store.{first, follow, step};
-ghost use Rattle.reassembly.specs.Calls.{after, lentShort, badSize, offNumber, firstCall, followOnCall, sweptAt, sweptTo, swept, renewed, renewal};
+ghost use Rattle.reassembly.specs.Calls.{lent, after, lentShort, badSize, offNumber, firstCall, followOnCall, sweptAt, sweptTo, swept, renewed, renewal};
 ghost use Rattle.reassembly.specs.Stands.{stands, Made, Agrees, SweepAgrees, NewAgrees};
 
 // 59: the lent record or room is short.
 fn is_short(rec: &[u8], room: &[u8]) -> bool
     ensures { λ r. ⌜ r ≡ lentShort (now (rec .entry)) (now (room .entry)) ⌝ }
 {
-    (rec.len() < 8576) | (room.len() < 1048560)
+    (rec.len() < RECORD_SIZE) | (room.len() < ROOM_SIZE)
 }
 
 // 50: a piece has 1 to 1,500 bytes.
@@ -56,8 +59,8 @@ pub fn first_fragment(
     second: u64,
     bytes: &[u8],
 ) -> Reply
-    ensures { λ r. ⌜ after r (now (rec .exit)) (now (room .exit)) (now (out .exit)) ≡ firstCall (now (rec .entry)) (now (room .entry)) (now (out .entry)) (record { id = id; number = 0; last = false; kind = kind; expires = expires }) second (now (bytes .entry)) ⌝ }
-    ensures { λ r. ⌜ (Made (now (rec .entry)) (now (room .entry)) → Agrees (now (out .entry)) (after r (now (rec .exit)) (now (room .exit)) (now (out .exit))) (step (length (now (out .entry))) (stands (now (rec .entry)) (now (room .entry))) (first id kind expires (now (bytes .entry))) second)) ⌝ }
+    ensures { λ r. ⌜ after r (lent (now (rec .exit)) (now (room .exit)) (now (out .exit))) ≡ firstCall (lent (now (rec .entry)) (now (room .entry)) (now (out .entry))) (record { id = id; number = 0; last = false; kind = kind; expires = expires }) second (now (bytes .entry)) ⌝ }
+    ensures { λ r. ⌜ (Made (now (rec .entry)) (now (room .entry)) → Agrees (now (out .entry)) (after r (lent (now (rec .exit)) (now (room .exit)) (now (out .exit)))) (step (length (now (out .entry))) (stands (now (rec .entry)) (now (room .entry))) (first id kind expires (now (bytes .entry))) second)) ⌝ }
 {
     if is_short(rec, room) {
         return bare(59);
@@ -86,8 +89,8 @@ pub fn follow_on_fragment(
     second: u64,
     bytes: &[u8],
 ) -> Reply
-    ensures { λ r. ⌜ after r (now (rec .exit)) (now (room .exit)) (now (out .exit)) ≡ followOnCall (now (rec .entry)) (now (room .entry)) (now (out .entry)) (record { id = id; number = number; last = last; kind = 0; expires = 0 }) second (now (bytes .entry)) ⌝ }
-    ensures { λ r. ⌜ (Made (now (rec .entry)) (now (room .entry)) → Agrees (now (out .entry)) (after r (now (rec .exit)) (now (room .exit)) (now (out .exit))) (step (length (now (out .entry))) (stands (now (rec .entry)) (now (room .entry))) (follow id number last (now (bytes .entry))) second)) ⌝ }
+    ensures { λ r. ⌜ after r (lent (now (rec .exit)) (now (room .exit)) (now (out .exit))) ≡ followOnCall (lent (now (rec .entry)) (now (room .entry)) (now (out .entry))) (record { id = id; number = number; last = last; kind = 0; expires = 0 }) second (now (bytes .entry)) ⌝ }
+    ensures { λ r. ⌜ (Made (now (rec .entry)) (now (room .entry)) → Agrees (now (out .entry)) (after r (lent (now (rec .exit)) (now (room .exit)) (now (out .exit)))) (step (length (now (out .entry))) (stands (now (rec .entry)) (now (room .entry))) (follow id number last (now (bytes .entry))) second)) ⌝ }
 {
     if is_short(rec, room) {
         return bare(59);
@@ -108,7 +111,7 @@ pub fn follow_on_fragment(
 
 // Slot i is free where its message is old.
 fn sweep_one(rec: &mut [u8], i: usize, second: u64)
-    requires { ⌜ (8576 ≤ length (now rec)) × (i < 16) ⌝ }
+    requires { ⌜ (recordSize ≤ length (now rec)) × (i < 16) ⌝ }
     ensures { λ _. ⌜ now (rec .exit) ≡ sweptAt second (now (rec .entry)) i ⌝ }
 {
     if reassembly_judge::is_old(reassembly_records::load_head(rec, i), second) {
@@ -118,7 +121,7 @@ fn sweep_one(rec: &mut [u8], i: usize, second: u64)
 }
 
 fn sweep_all(rec: &mut [u8], second: u64)
-    requires { ⌜ 8576 ≤ length (now rec) ⌝ }
+    requires { ⌜ recordSize ≤ length (now rec) ⌝ }
     ensures { λ _. ⌜ now (rec .exit) ≡ sweptTo second (now (rec .entry)) 16 ⌝ }
 {
     let mut i = 0;
@@ -133,7 +136,7 @@ pub fn sweep(rec: &mut [u8], second: u64) -> u8
     ensures { λ r. ⌜ (r ≡ 0) × (now (rec .exit) ≡ swept second (now (rec .entry))) ⌝ }
     ensures { λ _. ⌜ SweepAgrees second (now (rec .entry)) (now (rec .exit)) ⌝ }
 {
-    if rec.len() < 8576 {
+    if rec.len() < RECORD_SIZE {
         return 0;
     }
     sweep_all(rec, second);
@@ -145,9 +148,9 @@ pub fn new(rec: &mut [u8]) -> u8
     ensures { λ r. ⌜ (r ≡ renewal (now (rec .entry))) × (now (rec .exit) ≡ renewed (now (rec .entry))) ⌝ }
     ensures { λ _. ⌜ NewAgrees (now (rec .entry)) (now (rec .exit)) ⌝ }
 {
-    if rec.len() < 8576 {
+    if rec.len() < RECORD_SIZE {
         return 59;
     }
-    reassembly_records::clear(rec, 0, 8576);
+    reassembly_records::clear(rec, 0, RECORD_SIZE);
     0
 }

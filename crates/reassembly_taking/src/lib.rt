@@ -2,7 +2,9 @@
 use reassembly::Entry;
 use reassembly::Head;
 use reassembly::Label;
+use reassembly::MESSAGE_SIZE;
 use reassembly::Reply;
+use reassembly::SLOT_SIZE;
 use reassembly_slots::pieces;
 use wire::usize_from_u8;
 use wire::usize_from_u16;
@@ -10,7 +12,8 @@ ghost use mathlib.Core.Path.{_≡_};
 ghost use mathlib.Core.List.{List};
 ghost use Prim.Native.Nat.{ℕ, _+_, _<_, _≤_};
 ghost use lib.ListN.{length};
-ghost use Rattle.reassembly.specs.Calls.{after, bare, keptRec, keptRoom, finished, putIn, compared, added, openedIn, openedNow, takenPiece};
+ghost use Rattle.reassembly.specs.Sizes.{slotSize, roomSize, recordSize};
+ghost use Rattle.reassembly.specs.Calls.{lent, after, bare, keptRec, keptRoom, finished, putIn, compared, added, openedIn, openedNow, takenPiece};
 
 pub fn bare(n: u8) -> Reply
     ensures { λ r. ⌜ r ≡ bare n ⌝ }
@@ -25,12 +28,12 @@ pub fn bare(n: u8) -> Reply
 
 // A piece is kept as number k of slot i, after the `total` bytes that the slot holds; the slot's head is then g.
 fn keep(rec: &mut [u8], room: &mut [u8], i: usize, k: usize, total: u16, g: Head, bytes: &[u8])
-    requires { ⌜ (8576 ≤ length (now rec)) × (1048560 ≤ length (now room)) × (i < 16) × (k < 128) × (total + length (now bytes) ≤ 65535) ⌝ }
+    requires { ⌜ (recordSize ≤ length (now rec)) × (roomSize ≤ length (now room)) × (i < 16) × (k < 128) × (total + length (now bytes) ≤ slotSize) ⌝ }
     ensures { λ _. ⌜ now (rec .exit) ≡ keptRec (now (rec .entry)) i k total (length (now (bytes .entry))) g ⌝ }
     ensures { λ _. ⌜ now (room .exit) ≡ keptRoom (now (room .entry)) i total (now (bytes .entry)) ⌝ }
 {
     let n = bytes.len();
-    wire::copy_to(room, i * 65535 + usize_from_u16(total), bytes);
+    wire::copy_to(room, i * SLOT_SIZE + usize_from_u16(total), bytes);
     reassembly_records::save_entry(
         rec,
         i,
@@ -43,7 +46,7 @@ fn keep(rec: &mut [u8], room: &mut [u8], i: usize, k: usize, total: u16, g: Head
     reassembly_records::save_head(rec, i, g);
 }
 
-// The message of slot i, finished by the piece: 59, or 56, or it is put to the start of out and its slot is free.
+// The message of slot i, finished (lent by the piece): 59, or 56, or it is put to the start of out and its slot is free.
 fn finish(
     rec: &mut [u8],
     room: &[u8],
@@ -53,8 +56,8 @@ fn finish(
     g: Head,
     bytes: &[u8],
 ) -> Reply
-    requires { ⌜ (8576 ≤ length (now rec)) × (1048560 ≤ length (now room)) × (i < 16) × (g .last < 128) × (length (now bytes) ≤ 1500) ⌝ }
-    ensures { λ r. ⌜ after r (now (rec .exit)) (now (room .entry)) (now (out .exit)) ≡ finished (now (rec .entry)) (now (room .entry)) (now (out .entry)) i l g (now (bytes .entry)) ⌝ }
+    requires { ⌜ (recordSize ≤ length (now rec)) × (roomSize ≤ length (now room)) × (i < 16) × (g .last < 128) × (length (now bytes) ≤ 1500) ⌝ }
+    ensures { λ r. ⌜ after r (lent (now (rec .exit)) (now (room .entry)) (now (out .exit))) ≡ finished (lent (now (rec .entry)) (now (room .entry)) (now (out .entry))) i l g (now (bytes .entry)) ⌝ }
 {
     let k = usize_from_u8(l.number);
     let last = usize_from_u8(g.last);
@@ -85,11 +88,11 @@ fn put(
     l: Label,
     bytes: &[u8],
 ) -> Reply
-    requires { ⌜ (8576 ≤ length (now rec)) × (1048560 ≤ length (now room)) × (i < 16) × (l .number < 128) × (length (now bytes) ≤ 1500) ⌝ }
-    ensures { λ r. ⌜ after r (now (rec .exit)) (now (room .exit)) (now (out .exit)) ≡ putIn (now (rec .entry)) (now (room .entry)) (now (out .entry)) i h l (now (bytes .entry)) ⌝ }
+    requires { ⌜ (recordSize ≤ length (now rec)) × (roomSize ≤ length (now room)) × (i < 16) × (l .number < 128) × (length (now bytes) ≤ 1500) ⌝ }
+    ensures { λ r. ⌜ after r (lent (now (rec .exit)) (now (room .exit)) (now (out .exit))) ≡ putIn (lent (now (rec .entry)) (now (room .entry)) (now (out .entry))) i h l (now (bytes .entry)) ⌝ }
 {
     let n = bytes.len();
-    if 65535 < usize_from_u16(h.total) + n {
+    if MESSAGE_SIZE < usize_from_u16(h.total) + n {
         return bare(53);
     }
     let g = reassembly_judge::grown(h, l, n as u16);
@@ -102,7 +105,7 @@ fn put(
 
 // A piece whose number is held in slot i, whose head is h: 59, or 54 or 55.
 fn compare(rec: &[u8], room: &[u8], i: usize, h: Head, l: Label, bytes: &[u8]) -> u8
-    requires { ⌜ (8576 ≤ length (now rec)) × (1048560 ≤ length (now room)) × (i < 16) × (l .number < 128) ⌝ }
+    requires { ⌜ (recordSize ≤ length (now rec)) × (roomSize ≤ length (now room)) × (i < 16) × (l .number < 128) ⌝ }
     ensures { λ r. ⌜ r ≡ compared (now (rec .entry)) (now (room .entry)) i h l (now (bytes .entry)) ⌝ }
 {
     let k = usize_from_u8(l.number);
@@ -115,8 +118,8 @@ fn compare(rec: &[u8], room: &[u8], i: usize, h: Head, l: Label, bytes: &[u8]) -
 
 // A piece of the open message of slot i: it is compared with the held one, or 55, or it is put.
 fn add(rec: &mut [u8], room: &mut [u8], out: &mut [u8], i: usize, l: Label, bytes: &[u8]) -> Reply
-    requires { ⌜ (8576 ≤ length (now rec)) × (1048560 ≤ length (now room)) × (i < 16) × (l .number < 128) × (length (now bytes) ≤ 1500) ⌝ }
-    ensures { λ r. ⌜ after r (now (rec .exit)) (now (room .exit)) (now (out .exit)) ≡ added (now (rec .entry)) (now (room .entry)) (now (out .entry)) i l (now (bytes .entry)) ⌝ }
+    requires { ⌜ (recordSize ≤ length (now rec)) × (roomSize ≤ length (now room)) × (i < 16) × (l .number < 128) × (length (now bytes) ≤ 1500) ⌝ }
+    ensures { λ r. ⌜ after r (lent (now (rec .exit)) (now (room .exit)) (now (out .exit))) ≡ added (lent (now (rec .entry)) (now (room .entry)) (now (out .entry))) i l (now (bytes .entry)) ⌝ }
 {
     let h = reassembly_records::load_head(rec, i);
     let k = usize_from_u8(l.number);
@@ -132,8 +135,8 @@ fn add(rec: &mut [u8], room: &mut [u8], out: &mut [u8], i: usize, l: Label, byte
 
 // A piece of a message that is not open is kept in the free slot i.
 fn open_in(rec: &mut [u8], room: &mut [u8], i: usize, l: Label, second: u64, bytes: &[u8])
-    requires { ⌜ (8576 ≤ length (now rec)) × (1048560 ≤ length (now room)) × (i < 16) × (l .number < 128) × (length (now bytes) ≤ 1500) ⌝ }
-    ensures { λ _. ⌜ ((out : List ℕ) → after (bare 0) (now (rec .exit)) (now (room .exit)) out ≡ openedIn (now (rec .entry)) (now (room .entry)) out i l second (now (bytes .entry))) ⌝ }
+    requires { ⌜ (recordSize ≤ length (now rec)) × (roomSize ≤ length (now room)) × (i < 16) × (l .number < 128) × (length (now bytes) ≤ 1500) ⌝ }
+    ensures { λ _. ⌜ ((out : List ℕ) → after (bare 0) (lent (now (rec .exit)) (now (room .exit)) out) ≡ openedIn (lent (now (rec .entry)) (now (room .entry)) out) i l second (now (bytes .entry))) ⌝ }
 {
     let n = bytes.len();
     reassembly_records::clear_entries(rec, i);
@@ -143,8 +146,8 @@ fn open_in(rec: &mut [u8], room: &mut [u8], i: usize, l: Label, second: u64, byt
 
 // A piece of a message that is not open: 52, or it is kept in the first free slot.
 fn open(rec: &mut [u8], room: &mut [u8], l: Label, second: u64, bytes: &[u8]) -> Reply
-    requires { ⌜ (8576 ≤ length (now rec)) × (1048560 ≤ length (now room)) × (l .number < 128) × (length (now bytes) ≤ 1500) ⌝ }
-    ensures { λ r. ⌜ ((out : List ℕ) → after r (now (rec .exit)) (now (room .exit)) out ≡ openedNow (now (rec .entry)) (now (room .entry)) out l second (now (bytes .entry))) ⌝ }
+    requires { ⌜ (recordSize ≤ length (now rec)) × (roomSize ≤ length (now room)) × (l .number < 128) × (length (now bytes) ≤ 1500) ⌝ }
+    ensures { λ r. ⌜ ((out : List ℕ) → after r (lent (now (rec .exit)) (now (room .exit)) out) ≡ openedNow (lent (now (rec .entry)) (now (room .entry)) out) l second (now (bytes .entry))) ⌝ }
 {
     let i = reassembly_slots::vacant(rec);
     if 16 <= i {
@@ -163,8 +166,8 @@ pub fn take(
     second: u64,
     bytes: &[u8],
 ) -> Reply
-    requires { ⌜ (8576 ≤ length (now rec)) × (1048560 ≤ length (now room)) × (l .number < 128) × (length (now bytes) ≤ 1500) ⌝ }
-    ensures { λ r. ⌜ after r (now (rec .exit)) (now (room .exit)) (now (out .exit)) ≡ takenPiece (now (rec .entry)) (now (room .entry)) (now (out .entry)) l second (now (bytes .entry)) ⌝ }
+    requires { ⌜ (recordSize ≤ length (now rec)) × (roomSize ≤ length (now room)) × (l .number < 128) × (length (now bytes) ≤ 1500) ⌝ }
+    ensures { λ r. ⌜ after r (lent (now (rec .exit)) (now (room .exit)) (now (out .exit))) ≡ takenPiece (lent (now (rec .entry)) (now (room .entry)) (now (out .entry))) l second (now (bytes .entry)) ⌝ }
 {
     let i = reassembly_slots::find(rec, l.id);
     if i < 16 {

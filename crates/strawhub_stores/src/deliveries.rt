@@ -1,8 +1,9 @@
 // What a block delivers, by numbers.
 ghost use mathlib.Core.Path.{_≡_};
-ghost use Rattle.numbers_outcomes.specs.Deliveries.{deliveryOutcome, deliveryNumbers, deliveredAt};
+ghost use Rattle.numbers_outcomes.specs.Deliveries.{deliveryOutcome, deliveryNumbers, toldWith, deliverCall};
 use messages::Received;
 use numbers_outcomes::Outcome;
+ghost use Rattle.reassembly.specs.Calls.{lent};
 
 // What was received put into the lent numbers; refused, they stay.
 fn tell(r: Received, told: &mut [u64; 6]) -> Outcome
@@ -39,7 +40,7 @@ pub extern "C" fn strawhub_block_deliver(
     second: u64,
     told: &mut [u64; 6],
 ) -> Outcome
-    ensures { λ r. ⌜ (r ≡ deliveryOutcome ((deliveredAt (now (payload .entry)) at (now (rec .entry)) (now (room .entry)) (now (out .entry)) second) .received)) × (now (rec .exit) ≡ (deliveredAt (now (payload .entry)) at (now (rec .entry)) (now (room .entry)) (now (out .entry)) second) .rec) × (now (room .exit) ≡ (deliveredAt (now (payload .entry)) at (now (rec .entry)) (now (room .entry)) (now (out .entry)) second) .room) × (now (out .exit) ≡ (deliveredAt (now (payload .entry)) at (now (rec .entry)) (now (room .entry)) (now (out .entry)) second) .out) × (now (told .exit) ≡ deliveryNumbers ((deliveredAt (now (payload .entry)) at (now (rec .entry)) (now (room .entry)) (now (out .entry)) second) .received) (now (told .entry))) ⌝ }
+    ensures { λ r. ⌜ toldWith r (now (told .exit)) (lent (now (rec .exit)) (now (room .exit)) (now (out .exit))) ≡ deliverCall (now (payload .entry)) at (lent (now (rec .entry)) (now (room .entry)) (now (out .entry))) second (now (told .entry)) ⌝ }
 {
     let r = messages::receive(payload, at, rec, room, out, second);
     tell(r, told)

@@ -2,7 +2,7 @@
 ghost use mathlib.Core.Path.{_≡_};
 ghost use mathlib.Core.Bool.{false, not};
 ghost use lib.Dec.{eqb};
-ghost use Rattle.reassembly.specs.Calls.{after, firstCall, followOnCall, swept, renewed, renewal};
+ghost use Rattle.reassembly.specs.Calls.{lent, after, firstCall, followOnCall, swept, renewed, renewal};
 use reassembly::Reply;
 
 // An empty store. 59 where the record is short, and then it stays.
@@ -25,7 +25,7 @@ pub extern "C" fn strawhub_store_first(
     second: u64,
     bytes: &[u8],
 ) -> Reply
-    ensures { λ r. ⌜ after r (now (rec .exit)) (now (room .exit)) (now (out .exit)) ≡ firstCall (now (rec .entry)) (now (room .entry)) (now (out .entry)) (record { id = id; number = 0; last = false; kind = kind; expires = expires }) second (now (bytes .entry)) ⌝ }
+    ensures { λ r. ⌜ after r (lent (now (rec .exit)) (now (room .exit)) (now (out .exit))) ≡ firstCall (lent (now (rec .entry)) (now (room .entry)) (now (out .entry))) (record { id = id; number = 0; last = false; kind = kind; expires = expires }) second (now (bytes .entry)) ⌝ }
 {
     reassembly_store::first_fragment(rec, room, out, id, kind, expires, second, bytes)
 }
@@ -42,7 +42,7 @@ pub extern "C" fn strawhub_store_follow_on(
     second: u64,
     bytes: &[u8],
 ) -> Reply
-    ensures { λ r. ⌜ after r (now (rec .exit)) (now (room .exit)) (now (out .exit)) ≡ followOnCall (now (rec .entry)) (now (room .entry)) (now (out .entry)) (record { id = id; number = number; last = not (eqb last 0); kind = 0; expires = 0 }) second (now (bytes .entry)) ⌝ }
+    ensures { λ r. ⌜ after r (lent (now (rec .exit)) (now (room .exit)) (now (out .exit))) ≡ followOnCall (lent (now (rec .entry)) (now (room .entry)) (now (out .entry))) (record { id = id; number = number; last = not (eqb last 0); kind = 0; expires = 0 }) second (now (bytes .entry)) ⌝ }
 {
     reassembly_store::follow_on_fragment(rec, room, out, id, number, last != 0, second, bytes)
 }

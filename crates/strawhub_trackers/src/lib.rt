@@ -8,6 +8,7 @@ ghost use Rattle.numbers_outcomes.specs.Outcomes.{writeOutcome};
 ghost use Rattle.numbers_outcomes.specs.Trackers.{newAnswer, newRecord, reportNumbers, reportPairs};
 use acks::AckInfo;
 use acks::Expanded;
+use acks::TRACKER_SIZE;
 use numbers_outcomes::Outcome;
 use numbers_outcomes::outcome_of;
 
@@ -16,10 +17,10 @@ use numbers_outcomes::outcome_of;
 pub extern "C" fn strawhub_tracker_new(tracker: &mut [u8]) -> u32
     ensures { λ r. ⌜ (r ≡ newAnswer (now (tracker .entry))) × (now (tracker .exit) ≡ newRecord (now (tracker .entry))) ⌝ }
 {
-    if tracker.len() < 259 {
+    if tracker.len() < TRACKER_SIZE {
         return 59;
     }
-    let zero = [0u8; 259];
+    let zero = [0u8; TRACKER_SIZE];
     wire::copy_to(tracker, 0, &zero);
     0
 }

@@ -14,7 +14,7 @@ abbrev shown : ℕ → ℕ → ℕ
 shown k row = (row / 2 ^ (4 * (k % 16))) % 16
 
 abbrev row : ℕ → ℕ
-row k = cond (ltb k 16) 1407375034548420 1310916
+row k = cond (ltb k 16) 0x50000090000C4 0x1400C4
 
 abbrev right : ℕ → Bool
 right k = eqb (shown k (row k)) (floorOf k)

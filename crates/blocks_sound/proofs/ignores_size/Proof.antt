@@ -10,7 +10,7 @@ use Rattle.blocks_sound.proofs.ignores_size.Tie as tie
 
 -- a type's bit, and that it is right
 abbrev bit : ℕ → Bool
-bit k = eqb ((3375105 / 2 ^ k) % 2) 1
+bit k = eqb ((0x338001 / 2 ^ k) % 2) 1
 
 abbrev agree : Bool → Bool → Bool
 agree true b = b

@@ -1,8 +1,8 @@
 use mathlib.Core.Path.{refl}
 use Rattle.reassembly.specs.Judge.{isComplete}
 use borrow.Author.Needs.{needs}
-use Rattle.reassembly_judge.proofs.is_whole.Statement.{statement}
-use Rattle.reassembly_judge.proofs.is_whole.Tie as tie
+use Rattle.reassembly_judge.proofs.is_complete.Statement.{statement}
+use Rattle.reassembly_judge.proofs.is_complete.Tie as tie
 
 usize-from-u8-requires : tie.Need-usize-from-u8-requires
 usize-from-u8-requires c κs = search needs

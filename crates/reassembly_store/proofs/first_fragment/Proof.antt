@@ -3,7 +3,7 @@ use mathlib.Core.Path.{sym, _∙_}
 use mathlib.Core.Bool.{false}
 use lib.ListN.{length}
 use Rattle.reassembly.specs.declared.Label.{Label}
-use Rattle.reassembly.specs.Calls.{after}
+use Rattle.reassembly.specs.Calls.{lent, after}
 use Rattle.reassembly.proofs.Branches.{first-59, first-50, first-taken, long-lent, good-size}
 use borrow.Author.Needs.{needs}
 use Rattle.reassembly_store.proofs.first_fragment.Statement.{statement}
@@ -26,7 +26,7 @@ returns c =
     let a = c .before .before .before .before .before .before .before .before .before .args in
     let l : Label = record { id = a .id; number = 0; last = false; kind = a .kind; expires = a .expires } in
     let e = first-59 (a .rec .now) (a .room .now) (a .out .now) l (a .second) (a .bytes .now) (c .bare .result) (sym (c .before .before .is-short .ensures) ∙ c .before .if1 .taken) (c .bare .ensures) in
-    (e, first-promise (a .rec .now) (a .room .now) (a .out .now) (a .id) (a .kind) (a .expires) (a .second) (a .bytes .now) (after (c .bare .result) (a .rec .now) (a .room .now) (a .out .now)) (search needs) (search needs) (search needs) e)
+    (e, first-promise (a .rec .now) (a .room .now) (a .out .now) (a .id) (a .kind) (a .expires) (a .second) (a .bytes .now) (after (c .bare .result) (lent (a .rec .now) (a .room .now) (a .out .now))) (search needs) (search needs) (search needs) e)
 
 bad-size-requires : tie.Need-bad-size-requires
 bad-size-requires c κs = search needs
@@ -45,7 +45,7 @@ returns-2 c =
     let a = c .before .before .before .before .before .before .before .before .before .before .before .args in
     let l : Label = record { id = a .id; number = 0; last = false; kind = a .kind; expires = a .expires } in
     let e = first-50 (a .rec .now) (a .room .now) (a .out .now) l (a .second) (a .bytes .now) (c .bare2 .result) (sym (c .before .before .before .before .is-short .ensures) ∙ c .before .before .before .if1 .left) (sym (c .before .before .bad-size .ensures) ∙ c .before .if2 .taken) (c .bare2 .ensures) in
-    (e, first-promise (a .rec .now) (a .room .now) (a .out .now) (a .id) (a .kind) (a .expires) (a .second) (a .bytes .now) (after (c .bare2 .result) (a .rec .now) (a .room .now) (a .out .now)) (search needs) (search needs) (search needs) e)
+    (e, first-promise (a .rec .now) (a .room .now) (a .out .now) (a .id) (a .kind) (a .expires) (a .second) (a .bytes .now) (after (c .bare2 .result) (lent (a .rec .now) (a .room .now) (a .out .now))) (search needs) (search needs) (search needs) e)
 
 take-requires : tie.Need-take-requires
 take-requires c κs =
@@ -67,8 +67,8 @@ returns-3 : tie.Need-returns-3
 returns-3 c =
     let a = c .before .before .before .before .before .before .before .before .before .before .before .before .before .before .before .before .before .before .before .before .args in
     let l : Label = record { id = a .id; number = 0; last = false; kind = a .kind; expires = a .expires } in
-    let e = first-taken (a .rec .now) (a .room .now) (a .out .now) l (a .second) (a .bytes .now) (after (c .before .before .before .before .before .before .take .result) (c .before .before .before .before .before .before .take .last .0) (c .before .before .before .before .before .before .take .last .1 .0) (c .before .before .before .before .before .before .take .last .1 .1 .0)) (sym (c .before .before .before .before .before .before .before .before .before .before .before .before .before .is-short .ensures) ∙ c .before .before .before .before .before .before .before .before .before .before .before .before .if1 .left) (sym (c .before .before .before .before .before .before .before .before .before .before .before .bad-size .ensures) ∙ c .before .before .before .before .before .before .before .before .before .before .if2 .left) (c .before .before .before .before .before .before .take .ensures) in
-    (e, first-promise (a .rec .now) (a .room .now) (a .out .now) (a .id) (a .kind) (a .expires) (a .second) (a .bytes .now) (after (c .before .before .before .before .before .before .take .result) (c .before .before .before .before .before .before .take .last .0) (c .before .before .before .before .before .before .take .last .1 .0) (c .before .before .before .before .before .before .take .last .1 .1 .0)) (search needs) (search needs) (search needs) e)
+    let e = first-taken (a .rec .now) (a .room .now) (a .out .now) l (a .second) (a .bytes .now) (after (c .before .before .before .before .before .before .take .result) (lent (c .before .before .before .before .before .before .take .last .0) (c .before .before .before .before .before .before .take .last .1 .0) (c .before .before .before .before .before .before .take .last .1 .1 .0))) (sym (c .before .before .before .before .before .before .before .before .before .before .before .before .before .is-short .ensures) ∙ c .before .before .before .before .before .before .before .before .before .before .before .before .if1 .left) (sym (c .before .before .before .before .before .before .before .before .before .before .before .bad-size .ensures) ∙ c .before .before .before .before .before .before .before .before .before .before .if2 .left) (c .before .before .before .before .before .before .take .ensures) in
+    (e, first-promise (a .rec .now) (a .room .now) (a .out .now) (a .id) (a .kind) (a .expires) (a .second) (a .bytes .now) (after (c .before .before .before .before .before .before .take .result) (lent (c .before .before .before .before .before .before .take .last .0) (c .before .before .before .before .before .before .take .last .1 .0) (c .before .before .before .before .before .before .take .last .1 .1 .0))) (search needs) (search needs) (search needs) e)
 
 pub first-fragment-spec : {M : Type 1} → statement M
 first-fragment-spec =

@@ -1,4 +1,4 @@
-use Rattle.reassembly.specs.Calls.{after}
+use Rattle.reassembly.specs.Calls.{lent, after}
 use Rattle.reassembly.proofs.Branches.{added-again, added-55, added-put}
 use borrow.Author.Needs.{needs}
 use Rattle.reassembly_taking.proofs.add.Statement.{statement}
@@ -59,7 +59,7 @@ same-length-6 c = search needs
 returns-3 : tie.Need-returns-3
 returns-3 c =
     let a = c .before .before .before .before .before .before .before .before .before .before .before .before .before .before .before .before .before .before .before .before .before .before .before .args in
-    added-put (a .rec .now) (a .room .now) (a .out .now) (a .i) (a .l) (a .bytes .now) (c .before .before .before .before .before .before .before .before .before .before .before .before .before .before .before .before .before .load-head .result) (c .before .before .before .before .before .before .before .before .before .before .before .before .before .before .before .before .usize-from-u8 .result) (c .before .before .before .before .before .before .before .before .before .before .before .before .before .before .load-entry .result) (c .before .before .before .before .before .before .before .before .before .before .before .before .before .before .before .before .before .load-head .ensures) (c .before .before .before .before .before .before .before .before .before .before .before .before .before .before .before .before .usize-from-u8 .ensures .0) (c .before .before .before .before .before .before .before .before .before .before .before .before .before .before .load-entry .ensures) (after (c .before .before .before .before .before .before .put .result) (c .before .before .before .before .before .before .put .last .0) (c .before .before .before .before .before .before .put .last .1 .0) (c .before .before .before .before .before .before .put .last .1 .1 .0)) (c .before .before .before .before .before .before .before .before .before .before .before .misfits .result) (c .before .before .before .before .before .before .before .before .before .before .before .before .if1 .left) (c .before .before .before .before .before .before .before .before .before .before .before .misfits .ensures) (c .before .before .before .before .before .before .before .before .before .before .if2 .left) (c .before .before .before .before .before .before .put .ensures)
+    added-put (a .rec .now) (a .room .now) (a .out .now) (a .i) (a .l) (a .bytes .now) (c .before .before .before .before .before .before .before .before .before .before .before .before .before .before .before .before .before .load-head .result) (c .before .before .before .before .before .before .before .before .before .before .before .before .before .before .before .before .usize-from-u8 .result) (c .before .before .before .before .before .before .before .before .before .before .before .before .before .before .load-entry .result) (c .before .before .before .before .before .before .before .before .before .before .before .before .before .before .before .before .before .load-head .ensures) (c .before .before .before .before .before .before .before .before .before .before .before .before .before .before .before .before .usize-from-u8 .ensures .0) (c .before .before .before .before .before .before .before .before .before .before .before .before .before .before .load-entry .ensures) (after (c .before .before .before .before .before .before .put .result) (lent (c .before .before .before .before .before .before .put .last .0) (c .before .before .before .before .before .before .put .last .1 .0) (c .before .before .before .before .before .before .put .last .1 .1 .0))) (c .before .before .before .before .before .before .before .before .before .before .before .misfits .result) (c .before .before .before .before .before .before .before .before .before .before .before .before .if1 .left) (c .before .before .before .before .before .before .before .before .before .before .before .misfits .ensures) (c .before .before .before .before .before .before .before .before .before .before .if2 .left) (c .before .before .before .before .before .before .put .ensures)
 
 pub add-spec : {M : Type 1} → statement M
 add-spec =

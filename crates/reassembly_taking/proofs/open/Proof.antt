@@ -1,4 +1,4 @@
-use Rattle.reassembly.specs.Calls.{after, bare}
+use Rattle.reassembly.specs.Calls.{lent, after, bare}
 use Rattle.reassembly.proofs.Branches.{opened-52, opened-in}
 use mathlib.Core.Path.{ap, _∙_}
 use borrow.Author.Needs.{needs}
@@ -34,7 +34,7 @@ same-length-3 c = search needs
 returns-2 : tie.Need-returns-2
 returns-2 c =
     let a = c .before .before .before .before .before .before .before .before .before .before .before .before .before .before .args in
-    λ out. opened-in (a .rec .now) (a .room .now) out (a .l) (a .second) (a .bytes .now) (after (c .bare2 .result) (c .before .before .before .before .before .open-in .last .0) (c .before .before .before .before .before .open-in .last .1 .0) out) (c .before .before .before .before .before .before .before .before .before .vacant .result) (c .before .before .before .before .before .before .before .before .before .vacant .ensures) (search needs) (ap (λ z. after z (c .before .before .before .before .before .open-in .last .0) (c .before .before .before .before .before .open-in .last .1 .0) out) (c .bare2 .ensures) ∙ c .before .before .before .before .before .open-in .ensures out)
+    λ out. opened-in (a .rec .now) (a .room .now) out (a .l) (a .second) (a .bytes .now) (after (c .bare2 .result) (lent (c .before .before .before .before .before .open-in .last .0) (c .before .before .before .before .before .open-in .last .1 .0) out)) (c .before .before .before .before .before .before .before .before .before .vacant .result) (c .before .before .before .before .before .before .before .before .before .vacant .ensures) (search needs) (ap (λ z. after z (lent (c .before .before .before .before .before .open-in .last .0) (c .before .before .before .before .before .open-in .last .1 .0) out)) (c .bare2 .ensures) ∙ c .before .before .before .before .before .open-in .ensures out)
 
 pub open-spec : {M : Type 1} → statement M
 open-spec =

@@ -1,5 +1,5 @@
 use mathlib.Core.Path.{sym, _∙_}
-use Rattle.reassembly.specs.Calls.{after}
+use Rattle.reassembly.specs.Calls.{lent, after}
 use Rattle.reassembly.proofs.Branches.{put-53, put-whole, put-kept, whole-last}
 use mathlib.Core.Path.{sym, _∙_}
 use native.Mathlib.Omega.{arith}
@@ -46,7 +46,7 @@ same-length-3 c = search needs
 returns-2 : tie.Need-returns-2
 returns-2 c =
     let a = c .before .before .before .before .before .before .before .before .before .before .before .before .before .before .before .before .before .args in
-    put-whole (a .rec .now) (a .room .now) (a .out .now) (a .i) (a .h) (a .l) (a .bytes .now) (after (c .before .before .before .before .finish .result) (c .before .before .before .before .finish .last .0) (a .room .now) (c .before .before .before .before .finish .last .1 .1 .0)) (c .before .before .before .before .before .before .before .before .before .before .grown .result) (search needs) (c .before .before .before .before .before .before .before .before .before .before .grown .ensures) (sym (c .before .before .before .before .before .before .before .before .before .is-complete .ensures) ∙ c .before .before .before .before .before .before .before .before .if2 .taken) (c .before .before .before .before .finish .ensures)
+    put-whole (a .rec .now) (a .room .now) (a .out .now) (a .i) (a .h) (a .l) (a .bytes .now) (after (c .before .before .before .before .finish .result) (lent (c .before .before .before .before .finish .last .0) (a .room .now) (c .before .before .before .before .finish .last .1 .1 .0))) (c .before .before .before .before .before .before .before .before .before .before .grown .result) (search needs) (c .before .before .before .before .before .before .before .before .before .before .grown .ensures) (sym (c .before .before .before .before .before .before .before .before .before .is-complete .ensures) ∙ c .before .before .before .before .before .before .before .before .if2 .taken) (c .before .before .before .before .finish .ensures)
 
 usize-from-u8-requires : tie.Need-usize-from-u8-requires
 usize-from-u8-requires c κs = search needs

@@ -1,4 +1,4 @@
-use Rattle.reassembly.specs.Calls.{after}
+use Rattle.reassembly.specs.Calls.{lent, after}
 use Rattle.reassembly.proofs.Branches.{taken-added, taken-opened}
 use borrow.Author.Needs.{needs}
 use Rattle.reassembly_taking.proofs.take.Statement.{statement}
@@ -22,7 +22,7 @@ same-length-3 c = search needs
 returns : tie.Need-returns
 returns c =
     let a = c .before .before .before .before .before .before .before .before .before .before .before .before .before .before .before .before .before .args in
-    taken-added (a .rec .now) (a .room .now) (a .out .now) (a .l) (a .second) (a .bytes .now) (after (c .before .before .before .before .before .before .add .result) (c .before .before .before .before .before .before .add .last .0) (c .before .before .before .before .before .before .add .last .1 .0) (c .before .before .before .before .before .before .add .last .1 .1 .0)) (c .before .before .before .before .before .before .before .before .before .before .before .find .result) (c .before .before .before .before .before .before .before .before .before .before .before .find .ensures) (search needs) (c .before .before .before .before .before .before .add .ensures)
+    taken-added (a .rec .now) (a .room .now) (a .out .now) (a .l) (a .second) (a .bytes .now) (after (c .before .before .before .before .before .before .add .result) (lent (c .before .before .before .before .before .before .add .last .0) (c .before .before .before .before .before .before .add .last .1 .0) (c .before .before .before .before .before .before .add .last .1 .1 .0))) (c .before .before .before .before .before .before .before .before .before .before .before .find .result) (c .before .before .before .before .before .before .before .before .before .before .before .find .ensures) (search needs) (c .before .before .before .before .before .before .add .ensures)
 
 open-requires : tie.Need-open-requires
 open-requires c κs = search needs
@@ -36,7 +36,7 @@ same-length-5 c = search needs
 returns-2 : tie.Need-returns-2
 returns-2 c =
     let a = c .before .before .before .before .before .before .before .before .before .before .before .before .before .before .args in
-    taken-opened (a .rec .now) (a .room .now) (a .out .now) (a .l) (a .second) (a .bytes .now) (after (c .before .before .before .before .«open» .result) (c .before .before .before .before .«open» .last .0) (c .before .before .before .before .«open» .last .1 .0) (a .out .now)) (c .before .before .before .before .before .before .before .before .find .result) (c .before .before .before .before .before .before .before .before .find .ensures) (search needs) (c .before .before .before .before .«open» .ensures (a .out .now))
+    taken-opened (a .rec .now) (a .room .now) (a .out .now) (a .l) (a .second) (a .bytes .now) (after (c .before .before .before .before .«open» .result) (lent (c .before .before .before .before .«open» .last .0) (c .before .before .before .before .«open» .last .1 .0) (a .out .now))) (c .before .before .before .before .before .before .before .before .find .result) (c .before .before .before .before .before .before .before .before .find .ensures) (search needs) (c .before .before .before .before .«open» .ensures (a .out .now))
 
 pub take-spec : {M : Type 1} → statement M
 take-spec =
