@@ -8,7 +8,7 @@ use Rattle.wire.specs.Parts.{splice}
 use Rattle.acks.specs.Runs.{flags, named, wholePairs, runSum}
 use Rattle.acks.specs.declared.Expanded.{Expanded}
 
--- the through number, count numbers below it, then each pair skips and names
+-- the through number (the flag in front), count numbers below it, then each pair skips and names
 unfoldable pub expansion : ℕ → ℕ → List ℕ → List ℕ
 expansion through count pairs = named through (true ∷ flags true (count ∷ wholePairs pairs))
 

@@ -13,7 +13,7 @@ use Rattle.acks.specs.declared.AckInfo.{AckInfo}
 unfoldable pub view : List ℕ → ℕ → ℕ → List Bool
 view m n k = map (mark m) (falling (n - 1) k)
 
--- at most 254 bytes at the front of 254
+-- some bytes, at most 254, with zeros after them up to 254
 unfoldable pub padded : List ℕ → List ℕ
 padded l = l ++ replicate (254 - length l) 0
 

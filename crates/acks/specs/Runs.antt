@@ -9,7 +9,8 @@ unfoldable pub inc : List ℕ → List ℕ
 inc [] = 1 ∷ []
 inc (n ∷ ns) = suc n ∷ ns
 
--- the lengths of the runs, the first of b's (0 where the list starts with the other). A list that ends in missing ends in a 0
+-- the lengths of the runs, the first of b's (0 where the list starts with the other); there is a 0 at the end where the last flag is false:
+-- from true on, [true, false] has the runs 1, 1, 0, and [true] the run 1
 unfoldable pub runs : Bool → List Bool → List ℕ
 runs true [] = 0 ∷ []
 runs false [] = 0 ∷ 0 ∷ []

@@ -10,7 +10,7 @@ use borrow.Author.Tests.{ltb-false, leb-true, leb-false, le-leb, lt-leb}
 use Rattle.blocks.specs.declared.Taken.{Taken}
 use Rattle.blocks.specs.declared.Taken.the-variants as Take
 use Rattle.blocks.specs.declared.Extent.the-variants as End
-use Rattle.blocks.specs.Extent.{listed, takesBytes, atLeast, routerInfo, i2np, firstFragment, followOn, pairsIn, address, takenAt, fieldLengthOf, kindAt, sizeAt, ends, extentAt}
+use Rattle.blocks.specs.Extent.{isI2npType, takesBytes, atLeast, routerInfo, i2np, firstFragment, followOn, pairBytesIn, address, takenAt, fieldLengthOf, kindAt, sizeAt, ends, extentAt}
 use Rattle.blocks.specs.Sound.{bodyLength}
 use Rattle.blocks.proofs.Soundness.{taken-length}
 
@@ -49,12 +49,12 @@ module _ (s : List ℕ) (body size : ℕ) where
   in-i2np : Holds left 9 (i2np s body size)
   unfolding i2np
   in-i2np =
-      if (ltb size 9) (λ e. refuses) (λ e. if (ltb left 9) (λ _. refuses) (λ _. if (listed (getD s body 0)) (λ _. fits left 9 size (ltb-false size 9 e)) (λ _. refuses)))
+      if (ltb size 9) (λ e. refuses) (λ e. if (ltb left 9) (λ _. refuses) (λ _. if (isI2npType (getD s body 0)) (λ _. fits left 9 size (ltb-false size 9 e)) (λ _. refuses)))
 
   in-first : Holds left 9 (firstFragment s body size)
   unfolding firstFragment
   in-first =
-      if (ltb left 9) (λ _. refuses) (λ _. if (listed (getD s body 0)) (λ _. if (leb size 9) (λ _. refuses) (λ e. if (ltb left size) (λ _. refuses) (λ g. takes (omega (arith, leb-false size 9 e)) (ltb-false left size g)))) (λ _. refuses))
+      if (ltb left 9) (λ _. refuses) (λ _. if (isI2npType (getD s body 0)) (λ _. if (leb size 9) (λ _. refuses) (λ e. if (ltb left size) (λ _. refuses) (λ g. takes (omega (arith, leb-false size 9 e)) (ltb-false left size g)))) (λ _. refuses))
 
   in-follow-on : Holds left 5 (followOn size left)
   unfolding followOn
@@ -74,7 +74,7 @@ module _ (s : List ℕ) (body size : ℕ) where
       (by (eqb kind 4) in-first
       (by (eqb kind 5) in-follow-on
       (by (eqb kind 6) (fits left 9 (atLeast 9 size) (at-least 9 size))
-      (by (eqb kind 12) (fits left 5 (5 + pairsIn size) (omega arith))
+      (by (eqb kind 12) (fits left 5 (5 + pairBytesIn size) (omega arith))
       (by (eqb kind 13) in-address
       (by (eqb kind 15) (fits left 0 0 (omega arith))
       (by (eqb kind 16) (fits left 4 4 (omega arith))

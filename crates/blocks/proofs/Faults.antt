@@ -8,7 +8,7 @@ use lib.ListN.{length}
 use borrow.Author.Tests.{ne-eqb, le-ltb}
 use Rattle.blocks.specs.declared.Part.{Part}
 use Rattle.blocks.specs.declared.Block.the-variants as Body
-use Rattle.blocks.specs.Extent.{listed}
+use Rattle.blocks.specs.Extent.{isI2npType}
 use Rattle.blocks.specs.Writing.{faulty}
 
 -- an Ack of whole pairs
@@ -17,7 +17,7 @@ unfolding faulty
 pairs-whole t n p body even = ne-eqb (length body % 2) 1 (λ e. omega arith)
 
 -- fragments that are not empty, a first one of a listed type, a follow-on of a number up to 127
-pub first-whole : (k i x : ℕ) (p : Part) (body : List ℕ) → 1 ≤ length body → listed k ≡ true → faulty (Body.FirstFragment k i x p) body ≡ false
+pub first-whole : (k i x : ℕ) (p : Part) (body : List ℕ) → 1 ≤ length body → isI2npType k ≡ true → faulty (Body.FirstFragment k i x p) body ≡ false
 unfolding faulty
 first-whole k i x p body h l = rw (ne-eqb (length body) 0 (λ e. omega arith), l) refl
 

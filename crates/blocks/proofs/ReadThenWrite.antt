@@ -20,7 +20,7 @@ use Rattle.blocks.specs.declared.Extent.the-variants as End
 use Rattle.blocks.specs.declared.Read.the-variants as Got
 use Rattle.blocks.specs.declared.Written.{Written}
 use Rattle.blocks.specs.declared.Written.the-variants as Wrote
-use Rattle.blocks.specs.Extent.{listed, takesBytes, atLeast, routerInfo, i2np, firstFragment, followOn, pairsIn, address, takenAt, kindAt, sizeAt, ends, extentAt}
+use Rattle.blocks.specs.Extent.{isI2npType, takesBytes, atLeast, routerInfo, i2np, firstFragment, followOn, pairBytesIn, address, takenAt, kindAt, sizeAt, ends, extentAt}
 use Rattle.blocks.specs.Reading.{blockAt, reading, readAt}
 use Rattle.blocks.specs.Writing.{kindOf, isNamed, fieldBytes, carriedBytes, sizeOf, blockBytes, faulty, writing, stored, roomAfter}
 use Rattle.blocks.specs.Claims.{shownBytes, ReadThenWrite}
@@ -55,14 +55,14 @@ module _ (s : List ℕ) (o z : ℕ) where
   unfolding routerInfo
   of-router-info = if (leb z 2) (λ e. refuses) (λ e. fits z left (refl, leb-false z 2 e))
 
-  of-i2np : Given (λ n. (z ≡ n) × (listed (getD s o 0) ≡ true) × (9 ≤ z)) (i2np s o z)
+  of-i2np : Given (λ n. (z ≡ n) × (isI2npType (getD s o 0) ≡ true) × (9 ≤ z)) (i2np s o z)
   unfolding i2np
-  of-i2np = if (ltb z 9) (λ e. refuses) (λ e. if (ltb left 9) (λ _. refuses) (λ _. if (listed (getD s o 0)) (λ h. fits z left (refl, h, ltb-false z 9 e)) (λ _. refuses)))
+  of-i2np = if (ltb z 9) (λ e. refuses) (λ e. if (ltb left 9) (λ _. refuses) (λ _. if (isI2npType (getD s o 0)) (λ h. fits z left (refl, h, ltb-false z 9 e)) (λ _. refuses)))
 
-  of-first : Given (λ n. (z ≡ n) × (listed (getD s o 0) ≡ true) × (9 < z)) (firstFragment s o z)
+  of-first : Given (λ n. (z ≡ n) × (isI2npType (getD s o 0) ≡ true) × (9 < z)) (firstFragment s o z)
   unfolding firstFragment
   of-first =
-      if (ltb left 9) (λ _. refuses) (λ _. if (listed (getD s o 0)) (λ h. if (leb z 9) (λ _. refuses) (λ e. if (ltb left z) (λ _. refuses) (λ _. takes (refl, h, leb-false z 9 e)))) (λ _. refuses))
+      if (ltb left 9) (λ _. refuses) (λ _. if (isI2npType (getD s o 0)) (λ h. if (leb z 9) (λ _. refuses) (λ e. if (ltb left z) (λ _. refuses) (λ _. takes (refl, h, leb-false z 9 e)))) (λ _. refuses))
 
   of-follow-on : Given (λ n. (z ≡ n) × (5 < z)) (followOn z left)
   unfolding followOn
@@ -73,8 +73,8 @@ module _ (s : List ℕ) (o z : ℕ) where
   of-address = if (ltb left 2) (λ _. refuses) (λ _. if (eqb z 6) (λ _. fits 6 left (inl refl)) (λ _. if (eqb z 18) (λ _. fits 18 left (inr refl)) (λ _. refuses)))
 
 -- an Ack's pairs are even
-even-pairs : (z : ℕ) → pairsIn z % 2 ≡ 0
-unfolding pairsIn
+even-pairs : (z : ℕ) → pairBytesIn z % 2 ≡ 0
+unfolding pairBytesIn
 even-pairs z = go (eqb ((z - 5) % 2) 0) refl
   where
     go : (b : Bool) → eqb ((z - 5) % 2) 0 ≡ b → cond b (z - 5) 0 % 2 ≡ 0
@@ -208,13 +208,13 @@ module _ (s : List ℕ) (bytes : Bytes s) (o z : ℕ) where
   ack : Goal 12
   unfolding takenAt blockAt faulty
   ack n h e q =
-      let g : 5 + pairsIn z ≡ n = given (fits {P = λ m. 5 + pairsIn z ≡ m} (5 + pairsIn z) (length s - o) refl) e in
+      let g : 5 + pairBytesIn z ≡ n = given (fits {P = λ m. 5 + pairBytesIn z ≡ m} (5 + pairBytesIn z) (length s - o) refl) e in
       let l = length-part s (o + 5) (n - 5) (omega arith) in
-      let p : length (part s (o + 5) (n - 5)) ≡ pairsIn z = omega arith in
+      let p : length (part s (o + 5) (n - 5)) ≡ pairBytesIn z = omega arith in
       record {
         is-kind = refl;
         is-size = omega arith;
-        no-fault = rw p (ne-eqb (pairsIn z % 2) 1 (λ x. omega (arith, even-pairs z)));
+        no-fault = rw p (ne-eqb (pairBytesIn z % 2) 1 (λ x. omega (arith, even-pairs z)));
         is-bytes =
             rw (bigAt-again 4 s o (omega arith) bytes, part-one s (o + 4) 0 (omega arith), part-join s o 4 (o + 4) 1 5 refl refl) (part-join s o 5 (o + 5) (n - 5) n refl (omega arith));
       }

@@ -19,7 +19,7 @@ use Rattle.blocks.specs.declared.Extent.the-variants as End
 use Rattle.blocks.specs.declared.Read.the-variants as Got
 use Rattle.blocks.specs.declared.Written.{Written}
 use Rattle.blocks.specs.declared.Written.the-variants as Wrote
-use Rattle.blocks.specs.Extent.{listed, takesBytes, atLeast, routerInfo, i2np, firstFragment, followOn, pairsIn, address, takenAt, kindAt, sizeAt, ends, extentAt}
+use Rattle.blocks.specs.Extent.{isI2npType, takesBytes, atLeast, routerInfo, i2np, firstFragment, followOn, pairBytesIn, address, takenAt, kindAt, sizeAt, ends, extentAt}
 use Rattle.blocks.specs.Reading.{reading, readAt}
 use Rattle.blocks.specs.Writing.{sizeOf, faulty, writing, stored, roomAfter}
 use Rattle.blocks.proofs.Ends.{refused-at}
@@ -81,13 +81,13 @@ unfolding i2np
 fine-i2np s body size =
     both (ltb size 9) _ _ (inr (inr (inr (inr (inr (inr (inr (inr refl))))))))
     (both (ltb (length s - body) 9) _ _ fine-1
-    (both (listed (getD s body 0)) _ _ (fine-fits size (length s - body)) (inr (inr (inl refl)))))
+    (both (isI2npType (getD s body 0)) _ _ (fine-fits size (length s - body)) (inr (inr (inl refl)))))
 
 fine-first : (s : List ℕ) (body size : ℕ) → Fine (firstFragment s body size)
 unfolding firstFragment
 fine-first s body size =
     both (ltb (length s - body) 9) _ _ fine-1
-    (both (listed (getD s body 0)) _ _
+    (both (isI2npType (getD s body 0)) _ _
     (both (leb size 9) _ _ (inr (inr (inr (inl refl))))
     (both (ltb (length s - body) size) _ _ (inr (inr (inr (inr (inl refl))))) tt))
     (inr (inr (inl refl))))
@@ -117,7 +117,7 @@ fine-taken s body kind size =
     (both (eqb kind 4) _ _ (fine-first s body size)
     (both (eqb kind 5) _ _ (fine-follow size left)
     (both (eqb kind 6) _ _ (fine-fits (atLeast 9 size) left)
-    (both (eqb kind 12) _ _ (fine-fits (5 + pairsIn size) left)
+    (both (eqb kind 12) _ _ (fine-fits (5 + pairBytesIn size) left)
     (both (eqb kind 13) _ _ (fine-address size left)
     (both (eqb kind 15) _ _ (fine-fits 0 left)
     (both (eqb kind 16) _ _ (fine-fits 4 left)

@@ -10,7 +10,7 @@ use lib.ListN.{length, getD}
 use borrow.Author.Tests.{ltb-true, leb-true, leb-false, eqb-true, eqb-false, le-ltb, le-leb, lt-leb, eq-eqb, ne-eqb}
 use Rattle.blocks.specs.declared.Taken.{Taken}
 use Rattle.blocks.specs.declared.Taken.the-variants as Take
-use Rattle.blocks.specs.Extent.{listed, takesBytes, atLeast, routerInfo, i2np, firstFragment, followOn, pairsIn, address, takenAt}
+use Rattle.blocks.specs.Extent.{isI2npType, takesBytes, atLeast, routerInfo, i2np, firstFragment, followOn, pairBytesIn, address, takenAt}
 use Rattle.blocks.specs.Sound.{floorOf, ignoresSize, counted, bodyLength, tested, sound}
 use Rattle.blocks.specs.Writing.{isNamed}
 use Rattle.wire.proofs.Tests.{and-both, or-either}
@@ -45,8 +45,8 @@ floor-below k =
     by true p q = p
     by false p q = q
 
-ack-length : (z : ℕ) → bodyLength 12 z ≡ 5 + pairsIn z
-unfolding bodyLength floorOf counted ignoresSize pairsIn
+ack-length : (z : ℕ) → bodyLength 12 z ≡ 5 + pairBytesIn z
+unfolding bodyLength floorOf counted ignoresSize pairBytesIn
 ack-length z = go (eqb (z % 2) 0) refl (leb 5 z) refl
   where
     go : (b : Bool) → eqb (z % 2) 0 ≡ b → (l : Bool) → leb 5 z ≡ l → atLeast 5 (cond b 0 z) ≡ 5 + cond (eqb ((z - 5) % 2) 0) (z - 5) 0
@@ -126,10 +126,10 @@ module _ (s : List ℕ) (body z : ℕ) where
   unfolding takenAt bodyLength floorOf counted ignoresSize routerInfo i2np firstFragment followOn
   every =
       by-kind (λ k. Takes (bodyLength k z) (takenAt s body k z)) (fits 4 left) (fits (atLeast 12 z) left) (long (from-none z) (either (leb z 2) refuses (fits z left)))
-      (long (from-none z) (either (ltb z 9) refuses (either (ltb left 9) refuses (either (listed (getD s body 0)) (fits z left) refuses))))
-      (long (from-none z) (either (ltb left 9) refuses (either (listed (getD s body 0)) (either (leb z 9) refuses (either (ltb left z) refuses takes)) refuses)))
+      (long (from-none z) (either (ltb z 9) refuses (either (ltb left 9) refuses (either (isI2npType (getD s body 0)) (fits z left) refuses))))
+      (long (from-none z) (either (ltb left 9) refuses (either (isI2npType (getD s body 0)) (either (leb z 9) refuses (either (ltb left z) refuses takes)) refuses)))
       (long (from-none z) (either (ltb left 5) refuses (either (leb z 5) refuses (either (ltb left z) refuses takes))))
-      (fits (atLeast 9 z) left) (long (ack-length z) (fits (5 + pairsIn z) left)) (long (from-none z) in-address) (fits 0 left) (fits 4 left) (fits 12 left) (long (from-none z) (fits z left)) (long (from-none z) (fits z left)) (fits 4 left) (fits 1 left) (long (from-none z) (fits z left))
+      (fits (atLeast 9 z) left) (long (ack-length z) (fits (5 + pairBytesIn z) left)) (long (from-none z) in-address) (fits 0 left) (fits 4 left) (fits 12 left) (long (from-none z) (fits z left)) (long (from-none z) (fits z left)) (fits 4 left) (fits 1 left) (long (from-none z) (fits z left))
       (λ k f. long (other-length k z f) (subst (Takes z) (sym (other-taken k f)) (fits z left)))
 
   -- the bytes that a body takes are those
@@ -152,17 +152,17 @@ module _ (s : List ℕ) (body z : ℕ) where
   unfolding routerInfo
   router h t = rw (lt-leb z 2 (ltb-true 2 z t)) (whole z h)
 
-  message : z ≤ left → (leb 9 z && listed (getD s body 0)) ≡ true → i2np s body z ≡ Take.Bytes z
+  message : z ≤ left → (leb 9 z && isI2npType (getD s body 0)) ≡ true → i2np s body z ≡ Take.Bytes z
   unfolding i2np
   message h t =
-      let b = and-both (leb 9 z) (listed (getD s body 0)) t in
+      let b = and-both (leb 9 z) (isI2npType (getD s body 0)) t in
       let n : 9 ≤ z = leb-true 9 z (b .0) in
       rw (le-ltb z 9 n, le-ltb left 9 (omega arith), b .1) (whole z h)
 
-  first : z ≤ left → (leb 10 z && listed (getD s body 0)) ≡ true → firstFragment s body z ≡ Take.Bytes z
+  first : z ≤ left → (leb 10 z && isI2npType (getD s body 0)) ≡ true → firstFragment s body z ≡ Take.Bytes z
   unfolding firstFragment
   first h t =
-      let b = and-both (leb 10 z) (listed (getD s body 0)) t in
+      let b = and-both (leb 10 z) (isI2npType (getD s body 0)) t in
       let n : 10 ≤ z = leb-true 10 z (b .0) in
       rw (le-ltb left 9 (omega arith), b .1, lt-leb z 9 (omega arith), le-ltb left z h)
 
@@ -188,6 +188,6 @@ module _ (s : List ℕ) (body z : ℕ) where
   unfolding takenAt bodyLength floorOf counted ignoresSize sound tested
   sound-taken =
       by-kind Sound (λ h t. whole 4 h) (λ h t. whole (atLeast 12 z) h) (at-length 2 z (from-none z) router) (at-length 3 z (from-none z) message) (at-length 4 z (from-none z) first) (at-length 5 z (from-none z) follow)
-      (λ h t. whole (atLeast 9 z) h) (at-length 12 (5 + pairsIn z) (ack-length z) (λ h t. whole (5 + pairsIn z) h)) (at-length 13 z (from-none z) addressed) (λ h t. whole 0 h) (λ h t. whole 4 h) (λ h t. whole 12 h)
+      (λ h t. whole (atLeast 9 z) h) (at-length 12 (5 + pairBytesIn z) (ack-length z) (λ h t. whole (5 + pairBytesIn z) h)) (at-length 13 z (from-none z) addressed) (λ h t. whole 0 h) (λ h t. whole 4 h) (λ h t. whole 12 h)
       (at-length 18 z (from-none z) (λ h t. whole z h)) (at-length 19 z (from-none z) (λ h t. whole z h)) (λ h t. whole 4 h) (λ h t. whole 1 h) (at-length 254 z (from-none z) (λ h t. whole z h))
       (λ k f. at-length k z (other-length k z f) (λ h t. other-taken k f ∙ whole z h))

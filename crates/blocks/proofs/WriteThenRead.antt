@@ -19,7 +19,7 @@ use Rattle.blocks.specs.declared.Taken.the-variants as Take
 use Rattle.blocks.specs.declared.Extent.the-variants as End
 use Rattle.blocks.specs.declared.Read.the-variants as Got
 use Rattle.blocks.specs.declared.Written.the-variants as Wrote
-use Rattle.blocks.specs.Extent.{listed, routerInfo, i2np, firstFragment, followOn, pairsIn, address, takenAt, kindAt, sizeAt, extentAt}
+use Rattle.blocks.specs.Extent.{isI2npType, routerInfo, i2np, firstFragment, followOn, pairBytesIn, address, takenAt, kindAt, sizeAt, extentAt}
 use Rattle.blocks.specs.Reading.{bytesAt, blockAt, reading, readAt}
 use Rattle.blocks.specs.Writing.{kindOf, isNamed, fieldBytes, fieldLength, carriedBytes, sizeOf, blockBytes, faulty, writing, roomAfter}
 use Rattle.blocks.specs.Claims.{BlockInWidth, placed, WriteThenRead}
@@ -162,16 +162,16 @@ module _ (body tail w : List ℕ) (z : ℕ) where
 
   -- where as many bytes as the size says are left, the body takes them
   takes : (b : Block) → Starts b → z ≡ sizeOf b body → faulty b body ≡ false → 3 + z ≤ length w → takenAt w 3 (kindOf b) z ≡ Take.Bytes z
-  unfolding takenAt faulty isNamed routerInfo i2np firstFragment followOn pairsIn address
+  unfolding takenAt faulty isNamed routerInfo i2np firstFragment followOn pairBytesIn address
   takes (Body.DateTime t) is q f h = rw (q, le-leb 4 (length w - 3) (omega arith))
   takes (Body.Options a b c d e g i j) is q f h = rw (q, le-leb 12 (length w - 3) (omega arith))
   takes (Body.RouterInfo g i p) is q f h = let n = eqb-false (length body) 0 f in rw (lt-leb z 2 (omega arith), le-leb z (length w - 3) (omega arith))
   takes (Body.I2np k i x p) is q f h =
-      rw (le-ltb z 9 (omega arith), le-ltb (length w - 3) 9 (omega arith), on (Body.I2np k i x p) is k 0 [] (bigBytes 4 i ++ bigBytes 4 x ++ tail) refl refl, not-false (listed k) f, le-leb z (length w - 3) (omega arith))
+      rw (le-ltb z 9 (omega arith), le-ltb (length w - 3) 9 (omega arith), on (Body.I2np k i x p) is k 0 [] (bigBytes 4 i ++ bigBytes 4 x ++ tail) refl refl, not-false (isI2npType k) f, le-leb z (length w - 3) (omega arith))
   takes (Body.FirstFragment k i x p) is q f h =
-      let g = or-neither (eqb (length body) 0) (not (listed k)) f in
+      let g = or-neither (eqb (length body) 0) (not (isI2npType k)) f in
       let n = eqb-false (length body) 0 (g .0) in
-      rw (le-ltb (length w - 3) 9 (omega arith), on (Body.FirstFragment k i x p) is k 0 [] (bigBytes 4 i ++ bigBytes 4 x ++ tail) refl refl, not-false (listed k) (g .1), lt-leb z 9 (omega arith), le-ltb (length w - 3) z (omega arith))
+      rw (le-ltb (length w - 3) 9 (omega arith), on (Body.FirstFragment k i x p) is k 0 [] (bigBytes 4 i ++ bigBytes 4 x ++ tail) refl refl, not-false (isI2npType k) (g .1), lt-leb z 9 (omega arith), le-ltb (length w - 3) z (omega arith))
   takes (Body.FollowOnFragment m l i p) is q f h =
       let n = eqb-false (length body) 0 (or-neither (eqb (length body) 0) (ltb 127 m) f .0) in
       rw (le-ltb (length w - 3) 5 (omega arith), lt-leb z 5 (omega arith), le-ltb (length w - 3) z (omega arith))

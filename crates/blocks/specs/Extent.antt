@@ -15,8 +15,8 @@ abbrev pub between : ℕ → ℕ → ℕ → Bool
 between lo hi x = leb lo x && leb x hi
 
 -- the types of I2NP messages: 1 to 3, 10, 11 and 18 to 26
-unfoldable pub listed : ℕ → Bool
-listed t = (between 1 3 t || between 10 11 t) || between 18 26 t
+unfoldable pub isI2npType : ℕ → Bool
+isI2npType t = (between 1 3 t || between 10 11 t) || between 18 26 t
 
 -- a body of so many bytes, if as many are left; else 1
 abbrev pub takesBytes : ℕ → ℕ → Taken
@@ -35,14 +35,14 @@ unfoldable pub i2np : List ℕ → ℕ → ℕ → Taken
 i2np s body size =
     cond (ltb size 9) (Take.Refused 9)
     (cond (ltb (length s - body) 9) (Take.Refused 1)
-    (cond (listed (getD s body 0)) (takesBytes size (length s - body))
+    (cond (isI2npType (getD s body 0)) (takesBytes size (length s - body))
     (Take.Refused 3)))
 
 -- 1 for the fields, 3 by the message's type, 4 for no bytes, 5 for missing ones
 unfoldable pub firstFragment : List ℕ → ℕ → ℕ → Taken
 firstFragment s body size =
     cond (ltb (length s - body) 9) (Take.Refused 1)
-    (cond (listed (getD s body 0))
+    (cond (isI2npType (getD s body 0))
     (cond (leb size 9) (Take.Refused 4)
     (cond (ltb (length s - body) size) (Take.Refused 5)
     (Take.Bytes size)))
@@ -56,9 +56,9 @@ followOn size left =
     (cond (ltb left size) (Take.Refused 7)
     (Take.Bytes size)))
 
--- an Ack's pairs: the bytes above five if they are even, else none
-unfoldable pub pairsIn : ℕ → ℕ
-pairsIn size = cond (eqb ((size - 5) % 2) 0) (size - 5) 0
+-- the bytes of an Ack's pairs: those above five where they are an even number, else none; a size below five has none, since minus stops at 0
+unfoldable pub pairBytesIn : ℕ → ℕ
+pairBytesIn size = cond (eqb ((size - 5) % 2) 0) (size - 5) 0
 
 -- 1 for the port, 8 by the size, 1 for the IP
 unfoldable pub address : ℕ → ℕ → Taken
@@ -68,7 +68,7 @@ address size left =
     (cond (eqb size 18) (takesBytes 18 left)
     (Take.Refused 8)))
 
--- what the body at a place takes, by type; a type with no row, named or not, takes size bytes
+-- what the body at a place takes, by type; every type that is not listed here takes size bytes
 unfoldable pub takenAt : List ℕ → ℕ → ℕ → ℕ → Taken
 takenAt s body kind size =
     cond (eqb kind 0) (takesBytes 4 (length s - body))
@@ -78,7 +78,7 @@ takenAt s body kind size =
     (cond (eqb kind 4) (firstFragment s body size)
     (cond (eqb kind 5) (followOn size (length s - body))
     (cond (eqb kind 6) (takesBytes (atLeast 9 size) (length s - body))
-    (cond (eqb kind 12) (takesBytes (5 + pairsIn size) (length s - body))
+    (cond (eqb kind 12) (takesBytes (5 + pairBytesIn size) (length s - body))
     (cond (eqb kind 13) (address size (length s - body))
     (cond (eqb kind 15) (takesBytes 0 (length s - body))
     (cond (eqb kind 16) (takesBytes 4 (length s - body))

@@ -78,7 +78,7 @@ blockAt s o kind n =
     (cond (eqb kind 254) (Body.Padding (bytesAt o n))
     (Body.Opaque kind (bytesAt o n))))))))))))))))))
 
--- a block that ends is its body, its size field and its end; a refusal is one
+-- a block that has an end is read: its body, its size field, its end; a refusal stays the refusal
 abbrev pub reading : List ℕ → ℕ → Extent → Read
 reading s at (End.Ends kind size next) = Got.Block (blockAt s (at + 3) kind (next - (at + 3))) size next
 reading s at (End.Refused number place) = Got.Refused number place

@@ -4,7 +4,7 @@ use mathlib.Core.List.{List}
 use Prim.Native.Nat.{ℕ, _+_, _%_}
 use lib.Dec.{ltb, leb, eqb}
 use lib.ListN.{getD}
-use Rattle.blocks.specs.Extent.{listed, atLeast}
+use Rattle.blocks.specs.Extent.{isI2npType, atLeast}
 
 -- the fewest bytes of a body, by type
 unfoldable pub floorOf : ℕ → ℕ
@@ -42,5 +42,5 @@ tested kind size =
 -- a body whose bytes are there passes its tests; I2NP takes size 9, FirstFragment 10
 unfoldable pub sound : List ℕ → ℕ → ℕ → ℕ → Bool
 sound s body kind size =
-    cond (eqb kind 3 || eqb kind 4) (leb (6 + kind) size && listed (getD s body 0))
+    cond (eqb kind 3 || eqb kind 4) (leb (6 + kind) size && isI2npType (getD s body 0))
     (tested kind size)

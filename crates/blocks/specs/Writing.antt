@@ -10,7 +10,7 @@ use Rattle.blocks.specs.declared.Block.{Block}
 use Rattle.blocks.specs.declared.Block.the-variants as Body
 use Rattle.blocks.specs.declared.Written.{Written}
 use Rattle.blocks.specs.declared.Written.the-variants as Wrote
-use Rattle.blocks.specs.Extent.{between, listed}
+use Rattle.blocks.specs.Extent.{between, isI2npType}
 
 -- the type byte of a block
 abbrev pub kindOf : Block → ℕ
@@ -117,8 +117,8 @@ unfoldable pub faulty : Block → List ℕ → Bool
 faulty (Body.DateTime t) body = false
 faulty (Body.Options a b c d e f g h) body = false
 faulty (Body.RouterInfo f g p) body = eqb (length body) 0
-faulty (Body.I2np k i x p) body = not (listed k)
-faulty (Body.FirstFragment k i x p) body = eqb (length body) 0 || not (listed k)
+faulty (Body.I2np k i x p) body = not (isI2npType k)
+faulty (Body.FirstFragment k i x p) body = eqb (length body) 0 || not (isI2npType k)
 faulty (Body.FollowOnFragment n l i p) body = eqb (length body) 0 || ltb 127 n
 faulty (Body.Termination n r) body = false
 faulty (Body.Ack t n p) body = eqb (length body % 2) 1

@@ -6,11 +6,11 @@ use wire_numbers::be_u16;
 ghost use mathlib.Core.Path.{_≡_};
 ghost use Prim.Native.Nat.{_+_, _<_, _≤_};
 ghost use lib.ListN.{length};
-ghost use Rattle.blocks.specs.Extent.{listed, atLeast, pairsIn, takesBytes, routerInfo, i2np, firstFragment, followOn, address, takenAt, extentAt};
+ghost use Rattle.blocks.specs.Extent.{isI2npType, atLeast, pairBytesIn, takesBytes, routerInfo, i2np, firstFragment, followOn, address, takenAt, extentAt};
 
 // Whether a number is the type of an I2NP message.
 pub fn is_listed(kind: u8) -> bool
-    ensures { λ r. ⌜ r ≡ listed kind ⌝ }
+    ensures { λ r. ⌜ r ≡ isI2npType kind ⌝ }
 {
     ((1 <= kind) & (kind <= 3)) | ((10 <= kind) & (kind <= 11)) | ((18 <= kind) & (kind <= 26))
 }
@@ -100,7 +100,7 @@ fn follow_on(size: usize, left: usize) -> Taken
 // The bytes of an Ack's pairs: those above five if they are even, else none.
 fn pairs_in(size: usize) -> usize
     requires { ⌜ size < 65536 ⌝ }
-    ensures { λ r. ⌜ (r ≡ pairsIn size) × (r < 65536) ⌝ }
+    ensures { λ r. ⌜ (r ≡ pairBytesIn size) × (r < 65536) ⌝ }
 {
     if size <= 5 {
         return 0;

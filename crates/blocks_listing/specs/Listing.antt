@@ -31,7 +31,7 @@ abbrev pub onward : List ℕ → ℕ → (ℕ → Listing) → Extent → Listin
 onward s at rest (End.Ends k z next) = cons (entry at k z) (cond (ltb next (length s)) (rest next) (ok []))
 onward s at rest (End.Refused m p) = no m p
 
--- the blocks from a place on, up to the payload's end; every block has three bytes at least, so as many steps as bytes are left are enough
+-- the blocks from a place on, up to the payload's end; every block has three bytes at least, so as many steps as bytes are left are enough; with none left, an empty payload too, it is 1
 unfoldable pub blocksFrom : ℕ → List ℕ → ℕ → Listing
 blocksFrom zero s at = no 1 at
 blocksFrom (suc steps) s at = onward s at (blocksFrom steps s) (extentAt s at)
@@ -67,7 +67,7 @@ abbrev pub entriesAfter : Listing → List Entry → List Entry
 entriesAfter (ok es) l = es ++ drop (length es) l
 entriesAfter (no m p) l = l
 
--- the refusal of a block that was not read
+-- (From here on: how the code goes over a payload.) The refusal of a block that was not read
 abbrev pub extentRefusal : Extent → Answer
 extentRefusal (End.Refused m p) = refusedListing m p
 extentRefusal (End.Ends k z next) = counts 0

@@ -9,7 +9,7 @@ use Rattle.wire.specs.Parts.{part, splice}
 use Rattle.header.specs.declared.Fields.{Fields}
 use Rattle.header.specs.declared.HeaderKind.{HeaderKind}
 use Rattle.header.specs.declared.Answer.the-variants.{Header, Refused}
-use Rattle.header.specs.Kinds.{longOf, needOf}
+use Rattle.header.specs.Kinds.{maskedLength, needOf}
 use Rattle.header.specs.Unmasking.{front, rest, unmasked}
 use Rattle.header.specs.Reading.{frontRefusal, readNumber, headerAt, headerAnswer, packetAfterRead}
 use Rattle.header.specs.Writing.{writeNumber, plain, writtenPacket, packetAfterWrite}
@@ -35,7 +35,7 @@ module _ (k1 k2 p : List ℕ) where
     read-refused ne = rw (number-is, ne-eqb r 0 ne) (refl, refl)
 
     -- not refused, the rest can be unmasked
-    pub unmask-room : r ≡ 0 → 16 + longOf (getD head 12 0) ≤ length p
+    pub unmask-room : r ≡ 0 → 16 + maskedLength (getD head 12 0) ≤ length p
     unmask-room z =
         let e : frontRefusal (front k1 k2 p) (length p) ≡ 0 = sym (refusal-front (front k1 k2 p) (length p)) ∙ ap (λ (x : List ℕ). frontRefusal x (length p)) (sym eh) ∙ sym er ∙ z in
         rw (front-type k1 k2 p h head eh) (read-room (front k1 k2 p) (length p) h e)
@@ -53,7 +53,7 @@ module _ (k1 k2 : List ℕ) (f : Fields) (p : List ℕ) {r : ℕ} (er : r ≡ wr
   write-refused ne = (er, rw (← er, ne-eqb r 0 ne))
 
   -- not refused, header and nonces have room
-  pub write-rooms : r ≡ 0 → (40 ≤ length p) × (16 + longOf (f .kind) ≤ length p)
+  pub write-rooms : r ≡ 0 → (40 ≤ length p) × (16 + maskedLength (f .kind) ≤ length p)
   write-rooms z =
       let need : needOf (f .kind) ≤ length p = write-room f (length p) (sym er ∙ z) in
       (omega (arith, need-enough (f .kind)), omega (arith, need-enough (f .kind)))

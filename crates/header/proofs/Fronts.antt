@@ -10,7 +10,7 @@ use Rattle.wire.proofs.Parts.{getD-part, splice-front}
 use Rattle.keystream.specs.Chacha.{block}
 use Rattle.keystream.specs.Mask.{masked}
 use Rattle.keystream.proofs.Masks.{length-masked, masked-other, masked-twice, masked-none, masked-drop, masked-front, masked-swap}
-use Rattle.header.specs.Kinds.{longOf}
+use Rattle.header.specs.Kinds.{maskedLength}
 use Rattle.header.specs.Unmasking.{stream, nonce1, nonce2, front, rest, packetKind}
 
 module _ (k1 k2 p : List ℕ) (h : 40 ≤ length p) where
@@ -102,23 +102,23 @@ module _ (k1 k2 p : List ℕ) (h : 40 ≤ length p) where
       ∙ masked-twice p s2 8 8 (omega arith)
 
 -- the rest where it is nothing
-pub rest-none : (k2 : List ℕ) (t : ℕ) (p : List ℕ) → longOf t ≡ 0 → p ≡ rest k2 t p
+pub rest-none : (k2 : List ℕ) (t : ℕ) (p : List ℕ) → maskedLength t ≡ 0 → p ≡ rest k2 t p
 unfolding rest
 rest-none k2 t p e = sym (ap (λ (n : ℕ). masked p 16 n (stream k2 (replicate 12 0))) e ∙ masked-none p (stream k2 (replicate 12 0)) 16)
 
-pub rest-is : (k2 : List ℕ) (t n : ℕ) (p : List ℕ) {x : List ℕ} → n ≡ longOf t → x ≡ masked p 16 n (block k2 1 (replicate 12 0)) → x ≡ rest k2 t p
+pub rest-is : (k2 : List ℕ) (t n : ℕ) (p : List ℕ) {x : List ℕ} → n ≡ maskedLength t → x ≡ masked p 16 n (block k2 1 (replicate 12 0)) → x ≡ rest k2 t p
 unfolding rest stream
 rest-is k2 t n p e q = q ∙ ap (λ (m : ℕ). masked p 16 m (block k2 1 (replicate 12 0))) e
 
-pub length-rest : (k2 : List ℕ) (t : ℕ) (p : List ℕ) → 16 + longOf t ≤ length p → length (rest k2 t p) ≡ length p
+pub length-rest : (k2 : List ℕ) (t : ℕ) (p : List ℕ) → 16 + maskedLength t ≤ length p → length (rest k2 t p) ≡ length p
 unfolding rest
-length-rest k2 t p h = length-masked p (stream k2 (replicate 12 0)) 16 (longOf t) h
+length-rest k2 t p h = length-masked p (stream k2 (replicate 12 0)) 16 (maskedLength t) h
 
-pub rest-twice : (k2 : List ℕ) (t : ℕ) (p : List ℕ) → 16 + longOf t ≤ length p → rest k2 t (rest k2 t p) ≡ p
+pub rest-twice : (k2 : List ℕ) (t : ℕ) (p : List ℕ) → 16 + maskedLength t ≤ length p → rest k2 t (rest k2 t p) ≡ p
 unfolding rest
-rest-twice k2 t p h = masked-twice p (stream k2 (replicate 12 0)) 16 (longOf t) h
+rest-twice k2 t p h = masked-twice p (stream k2 (replicate 12 0)) 16 (maskedLength t) h
 
 -- what stands before 16 is as it was
-pub part-rest : (k2 : List ℕ) (t : ℕ) (p : List ℕ) (o n : ℕ) → 16 + longOf t ≤ length p → o + n ≤ 16 → part (rest k2 t p) o n ≡ part p o n
+pub part-rest : (k2 : List ℕ) (t : ℕ) (p : List ℕ) (o n : ℕ) → 16 + maskedLength t ≤ length p → o + n ≤ 16 → part (rest k2 t p) o n ≡ part p o n
 unfolding rest
-part-rest k2 t p o n h g = masked-other p (stream k2 (replicate 12 0)) 16 (longOf t) h o n (inl g)
+part-rest k2 t p o n h g = masked-other p (stream k2 (replicate 12 0)) 16 (maskedLength t) h o n (inl g)

@@ -12,7 +12,7 @@ use Rattle.wire.specs.Numbers.{bigAt}
 use Rattle.wire.proofs.Parts.{getD-part}
 use Rattle.wire.proofs.Numbers.{bigAt-part}
 use Rattle.header.specs.declared.Fields.{Fields}
-use Rattle.header.specs.Kinds.{isKeyed, isShort, isListed, isVersion, longOf, needOf}
+use Rattle.header.specs.Kinds.{isKeyed, isShort, isListed, isVersion, maskedLength, needOf}
 use Rattle.header.specs.Unmasking.{packetKind}
 use Rattle.header.specs.Reading.{frontRefusal}
 use Rattle.header.specs.Writing.{writeNumber}
@@ -55,8 +55,8 @@ read-taken q n e =
     go false false false false ea eb ed eg z = record { listed = not-false (isListed (packetKind q)) ea; versed = eb; keyed = ed; numbered = eg }
 
 -- not refused, a packet has room for what is to be unmasked
-pub read-room : (q : List ℕ) (n : ℕ) → 40 ≤ n → frontRefusal q n ≡ 0 → 16 + longOf (packetKind q) ≤ n
-unfolding longOf
+pub read-room : (q : List ℕ) (n : ℕ) → 40 ≤ n → frontRefusal q n ≡ 0 → 16 + maskedLength (packetKind q) ≤ n
+unfolding maskedLength
 read-room q n h e = by (isKeyed (packetKind q)) (isShort (packetKind q)) (read-taken q n e .keyed)
   where
     by : (k s : Bool) → (k && ltb n 64) ≡ false → 16 + cond k 48 (cond s 0 16) ≤ n
@@ -93,8 +93,8 @@ pub write-room : (f : Fields) (n : ℕ) → writeNumber f n ≡ 0 → needOf (f 
 write-room f n e = write-given f n e .room
 
 -- what writing needs is enough for what is masked and for both nonces
-pub need-enough : (t : ℕ) → (40 ≤ needOf t) × (16 + longOf t + 24 ≤ needOf t)
-unfolding needOf longOf
+pub need-enough : (t : ℕ) → (40 ≤ needOf t) × (16 + maskedLength t + 24 ≤ needOf t)
+unfolding needOf maskedLength
 need-enough t = by (isKeyed t) (isShort t)
   where
     by : (k s : Bool) → (40 ≤ cond k 88 (cond s 40 56)) × (16 + cond k 48 (cond s 0 16) + 24 ≤ cond k 88 (cond s 40 56))
@@ -103,8 +103,8 @@ need-enough t = by (isKeyed t) (isShort t)
     by false false = (omega arith, omega arith)
 
 -- no more than 48 bytes are masked from 16 on
-pub long-le : (t : ℕ) → longOf t ≤ 48
-unfolding longOf
+pub long-le : (t : ℕ) → maskedLength t ≤ 48
+unfolding maskedLength
 long-le t = by (isKeyed t) (isShort t)
   where
     by : (k s : Bool) → cond k 48 (cond s 0 16) ≤ 48

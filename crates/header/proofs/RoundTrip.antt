@@ -20,11 +20,11 @@ use Rattle.header.specs.declared.Long.{Long}
 use Rattle.header.specs.declared.Fields.{Fields}
 use Rattle.header.specs.declared.HeaderKind.the-variants.{SessionConfirmed, Data}
 use Rattle.header.specs.declared.Answer.the-variants.{Header}
-use Rattle.header.specs.Kinds.{isKeyed, isShort, isListed, isVersion, longOf, needOf}
+use Rattle.header.specs.Kinds.{isKeyed, isShort, isListed, isVersion, maskedLength, needOf}
 use Rattle.header.specs.Unmasking.{stream, nonce1, nonce2, front, rest, packetKind, unmasked}
 use Rattle.header.specs.Reading.{frontRefusal, readNumber, longAt, longHeader, headerAt, headerAnswer, packetAfterRead}
 use Rattle.header.specs.Writing.{writeNumber, byte13, byte14, frontBytes, idBytes, headerBytes, plain, writtenPacket}
-use Rattle.header.specs.RoundTrip.{LongInWidth, own, headerOf, ofLong, headerFields, NoOthers, WrittenIsRead, ReadIsWritten}
+use Rattle.header.specs.RoundTrip.{WordsInWidth, own, headerOf, ofLong, headerFields, UnnamedBitsZero, WrittenIsRead, ReadIsWritten}
 use Rattle.header.proofs.Fronts.{length-front, front-twice, length-rest, rest-twice, part-rest}
 use Rattle.header.proofs.Refusals.{refusal-front, Taken, read-taken, read-room, Given, write-given, need-enough, need-keyed}
 use Rattle.header.proofs.Plain.{length-frontBytes, length-idBytes}
@@ -181,7 +181,7 @@ unfolding byte14
 byte14-long f e g = rw (e, g)
 
 -- the plain header gives the fields
-kind-plain : (f : Fields) (p : List ℕ) (n : ℕ) → 32 ≤ length p → LongInWidth f → Given f n → headerAt (plain f p) ≡ headerOf f
+kind-plain : (f : Fields) (p : List ℕ) (n : ℕ) → 32 ≤ length p → WordsInWidth f → Given f n → headerAt (plain f p) ≡ headerOf f
 unfolding headerAt headerOf longAt
 kind-plain f p n h w g =
     rw (type-plain f p h, plain-destination f p h (w .destination), plain-number f p h (w .number), plain-13 f p h, plain-14 f p h)
@@ -206,20 +206,20 @@ kind-plain f p n h w g =
 -- ---- reading what was written
 
 -- what is masked from 16 on is no part of the first 16 bytes
-front-rest : (k2 : List ℕ) (t : ℕ) (q : List ℕ) → 16 + longOf t ≤ length q → (n : ℕ) → frontRefusal (rest k2 t q) n ≡ frontRefusal q n
+front-rest : (k2 : List ℕ) (t : ℕ) (q : List ℕ) → 16 + maskedLength t ≤ length q → (n : ℕ) → frontRefusal (rest k2 t q) n ≡ frontRefusal q n
 front-rest k2 t q h n =
     sym (refusal-front (rest k2 t q) n)
     ∙ ap (λ (z : List ℕ). frontRefusal z n) (part-rest k2 t q 0 16 h (omega arith))
     ∙ refusal-front q n
 
-type-rest : (k2 : List ℕ) (t : ℕ) (q : List ℕ) → 16 + longOf t ≤ length q → packetKind (rest k2 t q) ≡ packetKind q
+type-rest : (k2 : List ℕ) (t : ℕ) (q : List ℕ) → 16 + maskedLength t ≤ length q → packetKind (rest k2 t q) ≡ packetKind q
 type-rest k2 t q h =
     sym (getD-part (rest k2 t q) 0 16 12 0 (omega arith))
     ∙ ap (λ (z : List ℕ). getD z 12 0) (part-rest k2 t q 0 16 h (omega arith))
     ∙ getD-part q 0 16 12 0 (omega arith)
 
 -- fields that are not refused make a header that is not refused
-refusal-plain : (f : Fields) (p : List ℕ) → 32 ≤ length p → LongInWidth f → Given f (length p) → frontRefusal (plain f p) (length p) ≡ 0
+refusal-plain : (f : Fields) (p : List ℕ) → 32 ≤ length p → WordsInWidth f → Given f (length p) → frontRefusal (plain f p) (length p) ≡ 0
 unfolding frontRefusal
 refusal-plain f p h w g =
     rw (type-plain f p h, plain-13 f p h, plain-number f p h (w .number), g .listed, version-13, keyed-long (isKeyed (f .kind)) refl, g .numbered)
@@ -247,7 +247,7 @@ written-is-read k1 k2 f p w e =
     let h32 : 32 ≤ length p = omega (arith, g .room) in
     let q = plain f p in
     let lq : length q ≡ length p = length-plain f p h32 in
-    let hq : 16 + longOf (f .kind) ≤ length q = omega (arith, g .room) in
+    let hq : 16 + maskedLength (f .kind) ≤ length q = omega (arith, g .room) in
     let x = rest k2 (f .kind) q in
     let lx : length x ≡ length p = length-rest k2 (f .kind) q hq ∙ lq in
     let hx : 40 ≤ length x = omega (arith, g .room) in
@@ -314,7 +314,7 @@ bit zero h = refl
 bit (suc zero) h = refl
 bit (suc (suc b)) h = absurd (omega arith)
 
-module _ (u : List ℕ) (bytes : Bytes u) (others : NoOthers u) where
+module _ (u : List ℕ) (bytes : Bytes u) (others : UnnamedBitsZero u) where
   same-confirmed : eqb (packetKind u) 2 ≡ true → Same (headerFields (SessionConfirmed (littleAt 8 u 0) (bigAt 4 u 8) (getD u 13 0 / 16) (getD u 13 0 % 16))) u
   unfolding byte13 byte14
   same-confirmed e =
@@ -377,7 +377,7 @@ module _ (u : List ℕ) (bytes : Bytes u) (others : NoOthers u) where
       go false false ex ey = same-long listed ex ey
 
 -- the fields' bytes are the unmasked header's
-module _ (u : List ℕ) (f : Fields) (h : 32 ≤ length u) (bytes : Bytes u) (others : NoOthers u) (same : Same f u) where
+module _ (u : List ℕ) (f : Fields) (h : 32 ≤ length u) (bytes : Bytes u) (others : UnnamedBitsZero u) (same : Same f u) where
   front-again : frontBytes f ≡ part u 0 16
   unfolding frontBytes
   front-again =
@@ -426,7 +426,7 @@ bytes-front k1 k2 p b =
 
 bytes-rest : (k2 : List ℕ) (t : ℕ) (p : List ℕ) → Bytes p → Bytes (rest k2 t p)
 unfolding rest stream
-bytes-rest k2 t p b = bytes-masked p (block k2 1 (replicate 12 0)) 16 (longOf t) b (bytes-block k2 1 (replicate 12 0))
+bytes-rest k2 t p b = bytes-masked p (block k2 1 (replicate 12 0)) 16 (maskedLength t) b (bytes-block k2 1 (replicate 12 0))
 
 pub bytes-unmasked : (k1 k2 p : List ℕ) → Bytes p → Bytes (unmasked k1 k2 p)
 unfolding unmasked
@@ -446,7 +446,7 @@ read-passed k1 k2 p e = go (ltb (length p) 40) refl e
     go false eb z = (ltb-false (length p) 40 eb, z)
 
 module _ (k1 k2 p : List ℕ) (h : 40 ≤ length p) (z : frontRefusal (front k1 k2 p) (length p) ≡ 0) where
-  room : 16 + longOf (packetKind (front k1 k2 p)) ≤ length (front k1 k2 p)
+  room : 16 + maskedLength (packetKind (front k1 k2 p)) ≤ length (front k1 k2 p)
   room = rw (length-front k1 k2 p h) (read-room (front k1 k2 p) (length p) h z)
 
   pub length-unmasked : length (unmasked k1 k2 p) ≡ length p

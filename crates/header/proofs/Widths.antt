@@ -15,11 +15,11 @@ use Rattle.header.specs.Kinds.{isListed}
 use Rattle.header.specs.Unmasking.{packetKind, unmasked}
 use Rattle.header.specs.Reading.{readNumber, longAt, longHeader, headerAt, headerAnswer, packetAfterRead}
 use Rattle.header.specs.Writing.{writeNumber, writtenPacket, packetAfterWrite}
-use Rattle.header.specs.RoundTrip.{LongInWidth, BytesInWidth, headerFields}
+use Rattle.header.specs.RoundTrip.{WordsInWidth, BytesInWidth, headerFields}
 use Rattle.header.proofs.RoundTrip.{long-fields, bytes-unmasked, read-passed, length-unmasked, taken-unmasked}
 
 abbrev Within : Fields → Type 0
-Within f = LongInWidth f × BytesInWidth f
+Within f = WordsInWidth f × BytesInWidth f
 
 -- the fields of an unmasked header
 module _ (u : List ℕ) (h : 32 ≤ length u) (bytes : Bytes u) (listed : isListed (packetKind u) ≡ true) where
@@ -60,7 +60,7 @@ module _ (u : List ℕ) (h : 32 ≤ length u) (bytes : Bytes u) (listed : isList
 
 module _ (k1 k2 p : List ℕ) (e : readNumber k1 k2 p ≡ 0) where
   -- the fields that reading gives fit what writing takes
-  pub read-fits : Bytes p → LongInWidth (headerFields (headerAt (unmasked k1 k2 p))) × BytesInWidth (headerFields (headerAt (unmasked k1 k2 p)))
+  pub read-fits : Bytes p → WordsInWidth (headerFields (headerAt (unmasked k1 k2 p))) × BytesInWidth (headerFields (headerAt (unmasked k1 k2 p)))
   read-fits b =
       let passed = read-passed k1 k2 p e in
       let long = length-unmasked k1 k2 p (passed .0) (passed .1) in

@@ -24,8 +24,8 @@ unfoldable pub isVersion : ℕ → Bool
 isVersion v = eqb v 2 || eqb v 3 || eqb v 4
 
 -- how many bytes from 16 on are masked
-unfoldable pub longOf : ℕ → ℕ
-longOf t = cond (isKeyed t) 48 (cond (isShort t) 0 16)
+unfoldable pub maskedLength : ℕ → ℕ
+maskedLength t = cond (isKeyed t) 48 (cond (isShort t) 0 16)
 
 -- how long a packet must be to be written, so that no nonce lies in its header
 unfoldable pub needOf : ℕ → ℕ

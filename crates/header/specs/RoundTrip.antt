@@ -16,8 +16,8 @@ use Rattle.header.specs.Unmasking.{packetKind, unmasked}
 use Rattle.header.specs.Reading.{readNumber, longHeader, headerAt, headerAnswer, packetAfterRead}
 use Rattle.header.specs.Writing.{writeNumber, plain, writtenPacket}
 
--- fields within their widths, as every call has them
-pub record LongInWidth (f : Fields) : Type 0 where
+-- the fields of more than a byte within their widths, as every call has them
+pub record WordsInWidth (f : Fields) : Type 0 where
   pub destination : f .destination < 2 ^ 64
   pub number : f .number < 2 ^ 32
   pub source : f .source < 2 ^ 64
@@ -85,7 +85,7 @@ headerFields (TokenRequest l) = ofLong 10 l
 headerFields (HolePunch l) = ofLong 11 l
 
 -- the bits of an unmasked header that no field names are 0
-pub record NoOthers (u : List ℕ) : Type 0 where
+pub record UnnamedBitsZero (u : List ℕ) : Type 0 where
   pub last : getD u 15 0 ≡ 0
   pub short : isShort (packetKind u) ≡ true → getD u 14 0 ≡ 0
   pub flags : packetKind u ≡ 6 → getD u 13 0 < 2
@@ -93,11 +93,11 @@ pub record NoOthers (u : List ℕ) : Type 0 where
 -- reading what was written gives the same fields and the plain packet
 abbrev pub WrittenIsRead : Type 0
 WrittenIsRead =
-    (k1 k2 : List ℕ) (f : Fields) (p : List ℕ) → LongInWidth f → writeNumber f (length p) ≡ 0
+    (k1 k2 : List ℕ) (f : Fields) (p : List ℕ) → WordsInWidth f → writeNumber f (length p) ≡ 0
     → (headerAnswer k1 k2 (writtenPacket k1 k2 f p) ≡ Header (headerOf f)) × (packetAfterRead k1 k2 (writtenPacket k1 k2 f p) ≡ plain f p)
 
 -- what reading took, written again over the unmasked packet, is the packet
 abbrev pub ReadIsWritten : Type 0
 ReadIsWritten =
-    (k1 k2 p : List ℕ) → Bytes p → readNumber k1 k2 p ≡ 0 → NoOthers (unmasked k1 k2 p) → needOf (packetKind (unmasked k1 k2 p)) ≤ length p
+    (k1 k2 p : List ℕ) → Bytes p → readNumber k1 k2 p ≡ 0 → UnnamedBitsZero (unmasked k1 k2 p) → needOf (packetKind (unmasked k1 k2 p)) ≤ length p
     → (writeNumber (headerFields (headerAt (unmasked k1 k2 p))) (length p) ≡ 0) × (writtenPacket k1 k2 (headerFields (headerAt (unmasked k1 k2 p))) (unmasked k1 k2 p) ≡ p)

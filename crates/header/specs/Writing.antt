@@ -39,7 +39,7 @@ frontBytes f = littleBytes 8 (f .destination) ++ bigBytes 4 (f .number) ++ (f .k
 unfoldable pub idBytes : Fields → List ℕ
 idBytes f = littleBytes 8 (f .source) ++ littleBytes 8 (f .token)
 
--- the plain header from its start: 16 bytes for the short ones, else 32
+-- what is written of the plain header: 16 bytes for the short ones, else 32. The key of types 0 and 1 already stands at 32, and is only masked
 unfoldable pub headerBytes : Fields → List ℕ
 headerBytes f = cond (isShort (f .kind)) (frontBytes f) (frontBytes f ++ idBytes f)
 

@@ -1,6 +1,6 @@
 // The tests on a header's type, version and number, and the order of the refusals.
 ghost use mathlib.Core.Path.{_≡_};
-ghost use Rattle.header.specs.Kinds.{isKeyed, isShort, isMiddle, isListed, isVersion, longOf, needOf};
+ghost use Rattle.header.specs.Kinds.{isKeyed, isShort, isMiddle, isListed, isVersion, maskedLength, needOf};
 ghost use Rattle.header.specs.Reading.{frontRefusal};
 ghost use Rattle.header.specs.Writing.{writeNumber};
 use header::Fields;
@@ -37,7 +37,7 @@ fn is_version(v: u8) -> bool
 
 // How many bytes from 16 on a type has masked.
 pub fn long_of(t: u8) -> usize
-    ensures { λ r. ⌜ r ≡ longOf t ⌝ }
+    ensures { λ r. ⌜ r ≡ maskedLength t ⌝ }
 {
     if is_keyed(t) {
         return 48;

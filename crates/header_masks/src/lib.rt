@@ -3,7 +3,7 @@ ghost use mathlib.Core.Path.{_≡_};
 ghost use Prim.Native.Nat.{_+_, _≤_};
 ghost use lib.ListN.{length, getD};
 ghost use Rattle.wire.specs.Parts.{part, splice};
-ghost use Rattle.header.specs.Kinds.{longOf};
+ghost use Rattle.header.specs.Kinds.{maskedLength};
 ghost use Rattle.header.specs.Unmasking.{front, rest};
 use header_kinds::long_of;
 
@@ -44,7 +44,7 @@ pub fn front_of(pkt: &[u8], k1: &[u8; 32], k2: &[u8; 32]) -> [u8; 16]
 
 // The bytes from 16 on that a type has masked.
 fn mask_rest(pkt: &mut [u8], t: u8, k2: &[u8; 32])
-    requires { ⌜ 16 + longOf t ≤ length (now pkt) ⌝ }
+    requires { ⌜ 16 + maskedLength t ≤ length (now pkt) ⌝ }
     ensures { λ _. ⌜ now (pkt .exit) ≡ rest (now (k2 .entry)) t (now (pkt .entry)) ⌝ }
 {
     let n = long_of(t);
@@ -57,7 +57,7 @@ fn mask_rest(pkt: &mut [u8], t: u8, k2: &[u8; 32])
 
 // The unmasked front stored, and the rest unmasked.
 pub fn unmask(pkt: &mut [u8], head: [u8; 16], k2: &[u8; 32])
-    requires { ⌜ (16 ≤ length (now pkt)) × (16 + longOf (getD head 12 0) ≤ length (now pkt)) ⌝ }
+    requires { ⌜ (16 ≤ length (now pkt)) × (16 + maskedLength (getD head 12 0) ≤ length (now pkt)) ⌝ }
     ensures { λ _. ⌜ now (pkt .exit) ≡ rest (now (k2 .entry)) (getD head 12 0) (splice (now (pkt .entry)) 0 head) ⌝ }
 {
     wire::copy_to(pkt, 0, &head);
@@ -66,7 +66,7 @@ pub fn unmask(pkt: &mut [u8], head: [u8; 16], k2: &[u8; 32])
 
 // The plain header of a packet masked, the rest of it first.
 pub fn mask(pkt: &mut [u8], t: u8, k1: &[u8; 32], k2: &[u8; 32])
-    requires { ⌜ (40 ≤ length (now pkt)) × (16 + longOf t ≤ length (now pkt)) ⌝ }
+    requires { ⌜ (40 ≤ length (now pkt)) × (16 + maskedLength t ≤ length (now pkt)) ⌝ }
     ensures { λ _. ⌜ now (pkt .exit) ≡ front (now (k1 .entry)) (now (k2 .entry)) (rest (now (k2 .entry)) t (now (pkt .entry))) ⌝ }
 {
     mask_rest(pkt, t, k2);

@@ -23,7 +23,7 @@ use Rattle.reassembly.proofs.Steps.{first-promise, follow-promise}
 use Rattle.reassembly.proofs.Brought.{Sober, step-sober, reply-number, reply-some, laid-some}
 use Rattle.messages.specs.declared.Received.{Received}
 use Rattle.messages.specs.Delivery.{deliveryWith, nothing, wholeAt, rebuiltBy, rebuilt, deliveredBy, delivered, messageIn}
-use Rattle.messages.specs.Shown.{outBytes, receivedFor, OfStore, FirstOfStore, FollowOfStore}
+use Rattle.messages.specs.OfStore.{outBytes, receivedFor, OfStore, FirstOfStore, FollowOfStore}
 
 from-none : (at : ℕ) (r : Reply) (id n : ℕ) → r .number ≡ n → (n ≡ 60 → ⊥) → rebuiltBy at r id ≡ receivedFor at id n none
 unfolding rebuiltBy receivedFor

@@ -18,6 +18,7 @@ pub record Delivery : Type 0 where
   pub received : Received
   pub left : Lent
 
+-- these two as one
 abbrev pub deliveryWith : Received → Lent → Delivery
 deliveryWith r x = record { received = r; left = x }
 
@@ -25,11 +26,11 @@ deliveryWith r x = record { received = r; left = x }
 unfoldable pub nothing : ℕ → ℕ → Received
 nothing n p = record { number = n; from = 0; kind = 0; id = 0; expires = 0; start = p; length = 0 }
 
--- a whole message stands in the payload
+-- a whole message stands in the payload (`from` is 1)
 unfoldable pub wholeAt : ℕ → ℕ → ℕ → Part → Received
 wholeAt kind id expires p = record { number = 0; from = 1; kind = kind; id = id; expires = expires; start = p .start; length = p .len }
 
--- a finished message stands at the start of the assembly buffer; a refusal of the store has the place of the block that had the piece
+-- a finished message stands at the start of the assembly buffer (`from` is 2); a refusal of the store has the place of the block that had the piece
 unfoldable pub rebuiltBy : ℕ → Reply → ℕ → Received
 rebuiltBy at r id =
     cond (eqb (r .number) 60)

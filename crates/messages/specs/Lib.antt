@@ -1,3 +1,3 @@
 -- What the contracts of `messages` cite.
 pub mod Delivery
-pub mod Shown
+pub mod OfStore

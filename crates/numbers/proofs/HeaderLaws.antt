@@ -13,7 +13,7 @@ use Rattle.header.specs.declared.Answer.{Answer}
 use Rattle.header.specs.Kinds.{isListed}
 use Rattle.header.specs.Unmasking.{unmasked}
 use Rattle.header.specs.Reading.{readNumber, headerAt, headerAnswer}
-use Rattle.header.specs.RoundTrip.{LongInWidth, BytesInWidth, own, headerOf, headerFields}
+use Rattle.header.specs.RoundTrip.{WordsInWidth, BytesInWidth, own, headerOf, headerFields}
 use Rattle.header.proofs.RoundTrip.{fields-shown}
 use Rattle.header.proofs.Widths.{read-answer, read-refusal}
 use Rattle.numbers.specs.Headers.{kindNumbers, answerNumber, answerNumbers, fieldsFrom, numbersOf, NumbersInWidth}
@@ -50,7 +50,7 @@ pub numbers-shown : (f : Fields) → isListed (f .kind) ≡ true → kindNumbers
 numbers-shown f e = numbers-of (headerOf f) ∙ ap numbersOf (fields-shown f e)
 
 -- numbers that can be passed are fields within their widths
-pub in-width-long : (n : List ℕ) → NumbersInWidth n → LongInWidth (fieldsFrom n)
+pub in-width-long : (n : List ℕ) → NumbersInWidth n → WordsInWidth (fieldsFrom n)
 in-width-long n p = record { destination = p .destination; number = p .number; source = p .source; token = p .token }
 
 flag-in-width : (f : Fields) → cond (f .immediate) 1 0 < 2 ^ 8
@@ -61,7 +61,7 @@ flag-in-width f = go (f .immediate)
     go false = omega arith
 
 -- and the numbers of a header whose fields are within theirs can be passed
-pub kind-in-width : (k : HeaderKind) → LongInWidth (headerFields k) → BytesInWidth (headerFields k) → NumbersInWidth (kindNumbers k)
+pub kind-in-width : (k : HeaderKind) → WordsInWidth (headerFields k) → BytesInWidth (headerFields k) → NumbersInWidth (kindNumbers k)
 kind-in-width k w b =
     rw (numbers-of k)
     (record {

@@ -32,6 +32,7 @@ pub record Told : Type 0 where
   pub told : List ℕ
   pub left : Lent
 
+-- these three as one
 abbrev pub toldWith : Outcome → List ℕ → Lent → Told
 toldWith o told x = record { outcome = o; told = told; left = x }
 

@@ -20,7 +20,7 @@ use Rattle.reassembly.proofs.Stores.{step-enough}
 use Rattle.reassembly.proofs.Sweeps.{sweep-stands, sweep-made}
 use Rattle.messages.specs.declared.Received.{Received}
 use Rattle.messages.specs.Delivery.{Delivery, deliveredBy}
-use Rattle.messages.specs.Shown.{receivedFor, OfStore}
+use Rattle.messages.specs.OfStore.{receivedFor, OfStore}
 use Rattle.messages.proofs.OfStore.{first-of-store, follow-of-store, read-delivers, received-kept, received-refused, received-whole}
 use Rattle.numbers_outcomes.specs.declared.Outcome.{Outcome}
 use Rattle.numbers_outcomes.specs.Outcomes.{outcome}

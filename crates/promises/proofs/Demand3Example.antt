@@ -13,10 +13,10 @@ use borrow.Author.Tests.{ltb-true, ltb-false, leb-true, eqb-true, eq-eqb, not-tr
 use Rattle.wire.specs.Parts.{part, splice, same}
 use Rattle.wire.specs.Numbers.{little, big, bigAt}
 use Rattle.wire.proofs.Tests.{and-both}
-use Rattle.blocks.specs.Extent.{listed, firstFragment, takenAt, extentAt}
+use Rattle.blocks.specs.Extent.{isI2npType, firstFragment, takenAt, extentAt}
 use Rattle.blocks.specs.Reading.{bytesAt, blockAt, readAt}
 use Rattle.blocks.specs.Writing.{roomAfter}
-use Rattle.reassembly.specs.Store.{first, empty, total, idOf, numberOf, finalOf, pieceBytes, findId, findFree, placeOf, messageOr, plus, badLength, badNumber, repeats, clashes, tooMuch, complete, rebuiltOf, tooShort, refused, answer, step, sweptOne, sweep}
+use Rattle.reassembly.specs.Store.{first, empty, total, idOf, numberOf, finalOf, pieceBytes, findId, findFree, slotOf, messageOr, plus, badLength, badNumber, repeats, clashes, tooMuch, complete, rebuiltOf, tooShort, refused, answer, step, sweptOne, sweep}
 use Rattle.reassembly.specs.Stands.{stands, Made, laidOut}
 use Rattle.numbers_outcomes.specs.Outcomes.{outcome}
 use Rattle.promises.specs.Demand3.{Cut, Within, pieceOf, cutFrom, noCut, Event, deliver, sweepAt, Tally, noTally, begun, done, isOpen, marked, untouched, start, note, count, Allowed, Orderly, Schedule, dueOne, act, saidOf, said, Fulfilled}
@@ -162,7 +162,7 @@ pub example-said :
     ∷ record { number = 0; out = none } ∷ record { number = 0; out = none }
     ∷ record { number = 60; out = some (record { kind = 1; expires = 901; bytes = 6 ∷ 7 ∷ [] }) }
     ∷ record { number = 60; out = some (record { kind = 2; expires = 902; bytes = 8 ∷ 9 ∷ [] }) } ∷ []
-unfolding act saidOf step answer placeOf findId findFree messageOr plus badLength badNumber repeats clashes tooMuch complete rebuiltOf tooShort refused idOf numberOf finalOf pieceBytes sweep sweptOne same
+unfolding act saidOf step answer slotOf findId findFree messageOr plus badLength badNumber repeats clashes tooMuch complete rebuiltOf tooShort refused idOf numberOf finalOf pieceBytes sweep sweptOne same
 example-said = refl
 
 -- Without its premises demand 3 would be false. Two open messages with one id: the second's first piece is a 55, where 0 would be due;
@@ -173,14 +173,14 @@ oneId =
     ∷ []
 
 pub one-id-said : said 65535 oneId empty (deliver 0 0 100 ∷ deliver 1 0 101 ∷ []) ≡ record { number = 0; out = none } ∷ record { number = 55; out = none } ∷ []
-unfolding act saidOf step answer placeOf findId findFree messageOr plus badLength badNumber repeats clashes tooMuch complete rebuiltOf tooShort refused idOf numberOf finalOf pieceBytes same
+unfolding act saidOf step answer slotOf findId findFree messageOr plus badLength badNumber repeats clashes tooMuch complete rebuiltOf tooShort refused idOf numberOf finalOf pieceBytes same
 one-id-said = refl
 
 -- a piece that comes again after its message came out: it is kept, where 54 would be due.
 pub came-out-said :
     said 65535 oneId empty (deliver 0 0 100 ∷ deliver 0 1 101 ∷ deliver 0 1 102 ∷ [])
     ≡ record { number = 0; out = none } ∷ record { number = 60; out = some (record { kind = 20; expires = 900; bytes = 1 ∷ 2 ∷ [] }) } ∷ record { number = 0; out = none } ∷ []
-unfolding act saidOf step answer placeOf findId findFree messageOr plus badLength badNumber repeats clashes tooMuch complete rebuiltOf tooShort refused idOf numberOf finalOf pieceBytes same
+unfolding act saidOf step answer slotOf findId findFree messageOr plus badLength badNumber repeats clashes tooMuch complete rebuiltOf tooShort refused idOf numberOf finalOf pieceBytes same
 came-out-said = refl
 
 -- The same schedule, delivered to the calls: it meets every premise, on every record and room that calls made and that stand for the empty store, with any assembly buffers of the lent length.
@@ -231,14 +231,14 @@ module _ (space : List ℕ) (wide : 1512 ≤ length space) where
   abbrev sent : ℕ → ℕ → List ℕ
   sent c i = roomAfter (blockOf (pieceOf (getD threeCuts c noCut) i)) (pieceBytes (pieceOf (getD threeCuts c noCut) i)) space
 
-  is-sent : (c i : ℕ) → c < 3 → listed (getD threeCuts c noCut .kind) ≡ true → i < length (getD threeCuts c noCut .pieces) → HasPiece (sent c i) 0 (pieceOf (getD threeCuts c noCut) i)
+  is-sent : (c i : ℕ) → c < 3 → isI2npType (getD threeCuts c noCut .kind) ≡ true → i < length (getD threeCuts c noCut .pieces) → HasPiece (sent c i) 0 (pieceOf (getD threeCuts c noCut) i)
   is-sent c i h l k = written-is-handed (getD threeCuts c noCut) (within-limits c h) l (ids-in-width c) (expirations-in-width c) i k space wide
 
   abbrev behind : List ℕ
   behind = 15 ∷ 0 ∷ 0 ∷ 4 ∷ 0 ∷ 11 ∷ 20 ∷ 0 ∷ 0 ∷ 0 ∷ 7 ∷ 0 ∷ 0 ∷ 3 ∷ 132 ∷ 1 ∷ 2 ∷ []
 
   is-behind : HasPiece behind 3 (first 7 20 900 (1 ∷ 2 ∷ []))
-  unfolding readAt blockAt extentAt takenAt firstFragment listed bigAt big little part
+  unfolding readAt blockAt extentAt takenAt firstFragment isI2npType bigAt big little part
   is-behind = record { body = bytesAt 15 2; size = 11; next = 17; read = refl; same-bytes = refl }
 
   abbrev payloads : List (List ℕ)
@@ -249,7 +249,7 @@ module _ (space : List ℕ) (wide : 1512 ≤ length space) where
     loans n = record { payload = getD payloads n []; at = getD (0 ∷ 0 ∷ 0 ∷ 3 ∷ []) n 0; out = outs n; told = numbers n }
 
     all-sent : Handed threeCuts loans 0 mixture
-    unfolding listed
+    unfolding isI2npType
     all-sent = (
       is-sent 0 0 (omega arith) refl (omega arith),
       (

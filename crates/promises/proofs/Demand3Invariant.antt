@@ -10,7 +10,7 @@ use native.Mathlib.Omega.{arith}
 use native.Mathlib.Decide.{ℕ-discrete}
 use lib.ListN.{length, getD, set, length-set}
 use lib.Seq.{getD-set-same, getD-set-other, set-getD}
-use Rattle.reassembly.specs.Store.{Message, Store, findFree, placeOf, messageOr, plus, answer, step}
+use Rattle.reassembly.specs.Store.{Message, Store, findFree, slotOf, messageOr, plus, answer, step}
 use Rattle.reassembly.proofs.Series.{free-none}
 use Rattle.reassembly.proofs.Stores.{none≢some, Hit, place-open, place-new, free-inside, message-open, step-is, sweep-same}
 use Rattle.promises.specs.Demand3.{Cut, Within, pieceOf, cutFrom, noCut, deliver, sweepAt, Tally, noTally, anyMark, allMarks, begun, done, isOpen, marked, note, count, Allowed, Orderly, dueOne, act, saidOf}
@@ -51,7 +51,7 @@ pub record Inv (cs : List Cut) (ts : List Tally) (s : Store) : Type 0 where
 pub record Found (cs : List Cut) (ts : List Tally) (s : Store) (c second : ℕ) : Type 0 where
   pub at : ℕ
   pub there : Message
-  pub is-at : placeOf (cutAt cs c .id) s ≡ at
+  pub is-at : slotOf (cutAt cs c .id) s ≡ at
   pub is-there : messageOr (getD s at none) (cutAt cs c .id) second ≡ there
   pub inside : at < 16
   pub holds : Holds (cutAt cs c) (tallyAt ts c .marks) (cond (begun (tallyAt ts c)) (tallyAt ts c .opened) second) there
@@ -119,11 +119,11 @@ module _ (cs : List Cut) (within : (c : ℕ) → c < length cs → Within (cutAt
       p : Placed cs s c
       p = v .placed c o-c
 
-      hit : Hit (cutAt cs c .id) s (placeOf (cutAt cs c .id) s)
+      hit : Hit (cutAt cs c .id) s (slotOf (cutAt cs c .id) s)
       hit = place-open (cutAt cs c .id) s (p .at) (p .there) (p .is-there) (p .its-id)
 
       k : ℕ
-      k = placeOf (cutAt cs c .id) s
+      k = slotOf (cutAt cs c .id) s
 
       m : Message
       m = hit .there
@@ -289,7 +289,7 @@ module _ (cs : List Cut) (within : (c : ℕ) → c < length cs → Within (cutAt
     step-answer : (f : Found cs ts s c second) → step cap s (pieceOf (cutAt cs c) i) second ≡ answer cap s (pieceOf (cutAt cs c) i) (f .at) (f .there)
     step-answer f =
         step-is cap s (pieceOf (cutAt cs c) i) second (f .at) (f .there)
-        (ap (λ (z : ℕ). placeOf z s) (id-piece (cutAt cs c) i) ∙ f .is-at)
+        (ap (λ (z : ℕ). slotOf z s) (id-piece (cutAt cs c) i) ∙ f .is-at)
         (ap (λ (z : ℕ). messageOr (getD s (f .at) none) z second) (id-piece (cutAt cs c) i) ∙ f .is-there)
 
     since′ : ℕ

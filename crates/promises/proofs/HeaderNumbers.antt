@@ -10,7 +10,7 @@ use Rattle.header.specs.Kinds.{needOf}
 use Rattle.header.specs.Unmasking.{packetKind, unmasked}
 use Rattle.header.specs.Reading.{headerAt, headerAnswer, packetAfterRead}
 use Rattle.header.specs.Writing.{writeNumber, plain, packetAfterWrite}
-use Rattle.header.specs.RoundTrip.{NoOthers, own, headerFields}
+use Rattle.header.specs.RoundTrip.{UnnamedBitsZero, own, headerFields}
 use Rattle.header.proofs.Refusals.{write-given}
 use Rattle.header.proofs.RoundTrip.{written-is-read, read-is-written}
 use Rattle.header.proofs.Widths.{read-fits, read-left, length-left, write-left}
@@ -26,7 +26,7 @@ module _ (k1 k2 p out : List ℕ) (bytes : Bytes p) (taken : readAnswer k1 k2 p 
       rw (answer-numbers k1 k2 p out e) (kind-in-width (headerAt (unmasked k1 k2 p)) (w .0) (w .1))
 
   writes :
-      NoOthers (packetAfterRead k1 k2 p) → needOf (packetKind (packetAfterRead k1 k2 p)) ≤ length p
+      UnnamedBitsZero (packetAfterRead k1 k2 p) → needOf (packetKind (packetAfterRead k1 k2 p)) ≤ length p
       → (writeAnswer (lentNumbers k1 k2 p out) (packetAfterRead k1 k2 p) ≡ 0) × (writePacket k1 k2 (lentNumbers k1 k2 p out) (packetAfterRead k1 k2 p) ≡ p)
   writes others need =
       let e = sym (answer-number k1 k2 p) ∙ taken in
@@ -34,7 +34,7 @@ module _ (k1 k2 p out : List ℕ) (bytes : Bytes p) (taken : readAnswer k1 k2 p 
       let left = read-left k1 k2 p e in
       let long = length-left k1 k2 p e in
       let fields : fieldsFrom (lentNumbers k1 k2 p out) ≡ headerFields (headerAt u) = ap fieldsFrom (answer-numbers k1 k2 p out e) ∙ fields-from (headerAt u) in
-      let both = read-is-written k1 k2 p bytes e (subst NoOthers left others) (subst (λ (q : List ℕ). needOf (packetKind q) ≤ length p) left need) in
+      let both = read-is-written k1 k2 p bytes e (subst UnnamedBitsZero left others) (subst (λ (q : List ℕ). needOf (packetKind q) ≤ length p) left need) in
       let number : writeNumber (headerFields (headerAt u)) (length u) ≡ 0 = ap (λ (m : ℕ). writeNumber (headerFields (headerAt u)) m) (ap length (sym left) ∙ long) ∙ both .0 in (
         ap₂ (λ (f : Fields) (q : List ℕ). writeNumber f (length q)) fields left ∙ number,
         ap₂ (λ (f : Fields) (q : List ℕ). packetAfterWrite k1 k2 f q) fields left ∙ write-left k1 k2 (headerFields (headerAt u)) u number ∙ both .1,

@@ -14,7 +14,7 @@ use Rattle.header.specs.Kinds.{isListed, isVersion, needOf}
 use Rattle.header.specs.Unmasking.{packetKind}
 use Rattle.header.specs.Reading.{packetAfterRead}
 use Rattle.header.specs.Writing.{writeNumber, byte13, byte14, frontBytes, idBytes, headerBytes, plain}
-use Rattle.header.specs.RoundTrip.{NoOthers, own}
+use Rattle.header.specs.RoundTrip.{UnnamedBitsZero, own}
 use Rattle.header.proofs.RoundTrip.{bytes-written}
 use Rattle.header.proofs.Widths.{length-left, write-left}
 use Rattle.numbers.specs.Headers.{fieldsFrom, NumbersInWidth}
@@ -71,7 +71,7 @@ head-bytes : Bytes head
 unfolding below head
 head-bytes = below-bytes head refl
 
-no-others : NoOthers head
+no-others : UnnamedBitsZero head
 unfolding head
 no-others = record { last = refl; short = λ e. absurd (false≢true e); flags = λ e. omega arith }
 
@@ -102,4 +102,4 @@ module _ (k1 k2 out : List ℕ) where
   pub again : (writeAnswer (lentNumbers k1 k2 packet out) (packetAfterRead k1 k2 packet) ≡ 0) × (writePacket k1 k2 (lentNumbers k1 k2 packet out) (packetAfterRead k1 k2 packet) ≡ packet)
   again =
       let need : needOf (packetKind (packetAfterRead k1 k2 packet)) ≤ length packet = rw (read .2, packet-length) head-need in
-      header-numbers .read-written k1 k2 packet out packet-bytes (read .0) (subst NoOthers (sym (read .2)) no-others) need
+      header-numbers .read-written k1 k2 packet out packet-bytes (read .0) (subst UnnamedBitsZero (sym (read .2)) no-others) need

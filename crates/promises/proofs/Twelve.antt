@@ -2,7 +2,7 @@
 use mathlib.Core.Path.{refl}
 use Rattle.wire.specs.Parts.{part}
 use Rattle.wire.specs.Numbers.{little, big, bigAt}
-use Rattle.blocks.specs.Extent.{listed, firstFragment, pairsIn, address, takenAt, extentAt}
+use Rattle.blocks.specs.Extent.{isI2npType, firstFragment, pairBytesIn, address, takenAt, extentAt}
 use Rattle.blocks.specs.Reading.{blockAt, readAt}
 use Rattle.blocks_listing.specs.Listing.{blocksFrom, blocksOf}
 use Rattle.acks.proofs.Cases.{case-c, case-h, case-i, case-j, case-k}
@@ -10,6 +10,6 @@ use Rattle.reassembly.proofs.Cases.{case-l}
 use Rattle.promises.specs.Twelve.{Twelve}
 
 pub twelve-hold : Twelve
-unfolding readAt extentAt takenAt blockAt bigAt big little part listed firstFragment address pairsIn blocksOf blocksFrom
+unfolding readAt extentAt takenAt blockAt bigAt big little part isI2npType firstFragment address pairBytesIn blocksOf blocksFrom
 twelve-hold =
     ((refl, refl), (refl, ((refl, refl, case-c), ((refl, refl), ((refl, refl), ((refl, refl), ((refl, refl), (case-h, (case-i, (case-j, (case-k, (case-l, tt))))))))))))

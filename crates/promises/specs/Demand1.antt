@@ -37,10 +37,11 @@ use Rattle.reassembly.specs.declared.Label.{Label}
 use Rattle.reassembly.specs.Calls.{Lent, After, after, firstCall, followOnCall, renewal, renewed}
 use Rattle.messages.specs.Delivery.{deliveryWith, nothing, delivered}
 
--- An answer that is a number refuses where it is not 0; the store's where it is not 60 either, a finished message.
+-- An answer that is a number refuses where it is not 0;
 abbrev pub Refuses : ℕ → Type 0
 Refuses n = n ≡ 0 → ⊥
 
+-- the store's where it is not 60 either, a finished message.
 abbrev pub StoreRefuses : ℕ → Type 0
 StoreRefuses n = Refuses n × (n ≡ 60 → ⊥)
 

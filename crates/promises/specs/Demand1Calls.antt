@@ -20,6 +20,7 @@ use Rattle.numbers_outcomes.specs.Deliveries.{deliveredAt, deliverCall}
 use Rattle.promises.specs.Demand1.{Refuses, StoreRefuses}
 use Rattle.reassembly.specs.Calls.{Lent}
 
+-- a part for each call that is lent numbers, records or a room
 pub record Demand1Calls : Type 0 where
   -- strawhub_header_read, its eleven numbers
   pub header-numbers : (a : Answer) (out : List ℕ) → Refuses (answerNumber a) → answerNumbers a out ≡ out

@@ -29,9 +29,11 @@ abbrev pub pieceOf : Cut → ℕ → Piece
 pieceOf c zero = first (c .id) (c .kind) (c .expires) (getD (c .pieces) 0 [])
 pieceOf c (suc i) = follow (c .id) (suc i) (eqb (suc (suc i)) (length (c .pieces))) (getD (c .pieces) (suc i) [])
 
+-- What was cut: head and bytes.
 unfoldable pub cutFrom : Cut → Rebuilt
 cutFrom c = record { kind = c .kind; expires = c .expires; bytes = joined (c .pieces) }
 
+-- Stands for a message that is not on the list.
 abbrev pub noCut : Cut
 noCut = record { id = 0; kind = 0; expires = 0; pieces = [] }
 
@@ -45,56 +47,65 @@ pub record Tally : Type 0 where
   pub marks : List Bool
   pub opened : ℕ
 
+-- Stands for the tally of a message that is not on the list.
 abbrev pub noTally : Tally
 noTally = record { marks = []; opened = 0 }
 
+-- some piece was delivered
 abbrev pub anyMark : List Bool → Bool
 anyMark [] = false
 anyMark (b ∷ bs) = b || anyMark bs
 
+-- every piece was delivered
 abbrev pub allMarks : List Bool → Bool
 allMarks [] = true
 allMarks (b ∷ bs) = b && allMarks bs
 
+-- A message has begun with its first piece,
 unfoldable pub begun : Tally → Bool
 begun t = anyMark (t .marks)
 
+-- and is done with the last missing one.
 unfoldable pub done : Tally → Bool
 done t = allMarks (t .marks)
 
--- A message is open from its first piece to its last missing one.
+-- It is open in between.
 unfoldable pub isOpen : Tally → Bool
 isOpen t = begun t && not (done t)
 
+-- The tally with piece i delivered at a second: the first one opened the message.
 unfoldable pub marked : Tally → ℕ → ℕ → Tally
 marked t i second = record { marks = set (t .marks) i true; opened = cond (begun t) (t .opened) second }
 
--- The tallies of all messages, and what an event makes of them
+-- The tally of a message of which nothing was delivered;
 unfoldable pub untouched : Cut → Tally
 untouched c = record { marks = replicate (length (c .pieces)) false; opened = 0 }
 
+-- of all messages, before the first event;
 unfoldable pub start : List Cut → List Tally
 start cs = map untouched cs
 
+-- and after an event.
 unfoldable pub note : List Tally → Event → List Tally
 note ts (deliver c i second) = set ts c (marked (getD ts c noTally) i second)
 note ts (sweepAt second) = ts
 
+-- how many elements of a list pass a test
 abbrev pub count : {A : Type 0} → (A → Bool) → List A → ℕ
 count f [] = 0
 count f (x ∷ xs) = cond (f x) 1 0 + count f xs
 
--- The rules of a schedule. A piece is one of a message that has not come out yet; a sweep removes no open message;
+-- The rules of a schedule, of one event: a piece is one of a message that has not come out yet; a sweep removes no open message.
 abbrev pub Allowed : List Cut → List Tally → Event → Type 0
 Allowed cs ts (deliver c i second) = (c < length cs) × (i < length (getD cs c noCut .pieces)) × (done (getD ts c noTally) ≡ false)
 Allowed cs ts (sweepAt second) = (c : ℕ) → isOpen (getD ts c noTally) ≡ true → second < getD ts c noTally .opened + 30
 
--- never more than 16 are open, and no two open ones have one id;
+-- After it: never more than 16 are open, and no two open ones have one id.
 pub record Orderly (cs : List Cut) (ts : List Tally) : Type 0 where
   pub at-most : count isOpen ts ≤ 16
   pub own-id : (a b : ℕ) → isOpen (getD ts a noTally) ≡ true → isOpen (getD ts b noTally) ≡ true → getD cs a noCut .id ≡ getD cs b noCut .id → a ≡ b
 
--- and at the end every piece of every message was delivered.
+-- A schedule keeps them at every event, and at its end every piece of every message was delivered.
 abbrev pub Schedule : List Cut → List Tally → List Event → Type 0
 Schedule cs ts [] = (c : ℕ) → c < length cs → done (getD ts c noTally) ≡ true
 Schedule cs ts (e ∷ es) = Allowed cs ts e × Orderly cs (note ts e) × Schedule cs (note ts e) es
@@ -114,31 +125,36 @@ dueOne cs ts (deliver c i second) =
     (record { number = 0; out = none }))
 dueOne cs ts (sweepAt second) = record { number = 0; out = none }
 
+-- the same of all events, one after the other
 abbrev pub due : List Cut → List Tally → List Event → List Said
 due cs ts [] = []
 due cs ts (e ∷ es) = dueOne cs ts e ∷ due cs (note ts e) es
 
--- What the store says and becomes
+-- What the store answers to an event, and what it becomes
 unfoldable pub act : ℕ → List Cut → Store → Event → Answer
 act cap cs s (deliver c i second) = step cap s (pieceOf (getD cs c noCut) i) second
 act cap cs s (sweepAt second) = record { number = 0; out = none; store = sweep second s }
 
+-- an answer without the store
 unfoldable pub saidOf : Answer → Said
 saidOf a = record { number = a .number; out = a .out }
 
+-- what the store says, event after event
 abbrev pub said : ℕ → List Cut → Store → List Event → List Said
 said cap cs s [] = []
 said cap cs s (e ∷ es) = saidOf (act cap cs s e) ∷ said cap cs (act cap cs s e .store) es
 
+-- the store after the last of them
 abbrev pub storeAfter : ℕ → List Cut → Store → List Event → Store
 storeAfter cap cs s [] = s
 storeAfter cap cs s (e ∷ es) = storeAfter cap cs (act cap cs s e .store) es
 
--- How often message c came out: the pieces of c that were answered by 60
+-- one where an event is a piece of message c that was answered by 60
 abbrev pub timesOne : ℕ → Event → Said → ℕ
 timesOne c (deliver d i second) r = cond (eqb d c && eqb (r .number) 60) 1 0
 timesOne c (sweepAt second) r = 0
 
+-- how often message c came out: the pieces of c that were answered by 60
 abbrev pub times : ℕ → List Event → List Said → ℕ
 times c [] rs = 0
 times c (e ∷ es) [] = 0

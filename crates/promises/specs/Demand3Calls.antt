@@ -32,14 +32,16 @@ abbrev pub afterLast : List Cut → (ℕ → List ℕ) → ℕ → List ℕ → 
 afterLast cs outs n rec room [] = lent rec room []
 afterLast cs outs n rec room (e ∷ es) = afterLast cs outs (suc n) (called cs (lent rec room (outs n)) e .left .rec) (called cs (lent rec room (outs n)) e .left .room) es
 
--- the reply that is due, and the assembly buffer that is due
+-- the reply that is due
 unfoldable pub replyDue : Said → Reply
 replyDue d = replyFor (d .number) (d .out)
 
+-- the assembly buffers that are due
 abbrev pub buffersDue : (ℕ → List ℕ) → ℕ → List Said → List (List ℕ)
 buffersDue outs n [] = []
 buffersDue outs n (d ∷ ds) = laidOut (outs n) (d .out) ∷ buffersDue outs (suc n) ds
 
+-- the second of an event
 abbrev pub secondOf : Event → ℕ
 secondOf (deliver c i second) = second
 secondOf (sweepAt second) = second

@@ -12,7 +12,7 @@ use Rattle.blocks.specs.declared.Part.{Part}
 use Rattle.blocks.specs.declared.Block.{Block}
 use Rattle.blocks.specs.declared.Block.the-variants as Body
 use Rattle.blocks.specs.declared.Read.the-variants as Got
-use Rattle.blocks.specs.Extent.{listed}
+use Rattle.blocks.specs.Extent.{isI2npType}
 use Rattle.blocks.specs.Reading.{bytesAt, readAt}
 use Rattle.blocks.specs.Writing.{roomAfter}
 use Rattle.reassembly.specs.Store.{Piece, first, follow, pieceBytes, Rebuilt, empty}
@@ -60,6 +60,7 @@ pub record Tells : Type 0 where
   pub out : List ℕ
   pub told : List ℕ
 
+-- that, of what the call leaves
 abbrev pub tellsOf : Told → Tells
 tellsOf t = record { outcome = t .outcome; out = t .left .out; told = t .told }
 
@@ -97,6 +98,7 @@ unfoldable pub tellsDue : List Cut → Loan → Event → Said → Tells
 tellsDue cs l (deliver c i second) d = record { outcome = outcomeDue (l .at) d; out = laidOut (l .out) (d .out); told = toldDue (getD cs c noCut .id) (l .told) d }
 tellsDue cs l (sweepAt second) d = record { outcome = outcome 0 0; out = l .out; told = l .told }
 
+-- all that is due of a schedule
 abbrev pub allDue : List Cut → (ℕ → Loan) → ℕ → List Event → List Said → List Tells
 allDue cs loans n [] ds = []
 allDue cs loans n (e ∷ es) [] = []
@@ -126,7 +128,7 @@ blockOf (follow id number final bytes) = Body.FollowOnFragment number final id (
 -- Such payloads exist: what the block writer leaves in a room of 1,512 bytes or more for a piece of a message within the limits, of a listed type, is that piece.
 abbrev pub WrittenIsHanded : Type 0
 WrittenIsHanded =
-    (c : Cut) → Within c → listed (c .kind) ≡ true → c .id < 4294967296 → c .expires < 4294967296
+    (c : Cut) → Within c → isI2npType (c .kind) ≡ true → c .id < 4294967296 → c .expires < 4294967296
     → (i : ℕ) → i < length (c .pieces)
     → (room : List ℕ) → 1512 ≤ length room
     → HasPiece (roomAfter (blockOf (pieceOf c i)) (pieceBytes (pieceOf c i)) room) 0 (pieceOf c i)

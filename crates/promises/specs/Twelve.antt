@@ -102,6 +102,7 @@ caseL =
 abbrev pub twelve : List Case
 twelve = caseA ∷ caseB ∷ caseC ∷ caseD ∷ caseE ∷ caseF ∷ caseG ∷ caseH ∷ caseI ∷ caseJ ∷ caseK ∷ caseL ∷ []
 
+-- every case of a list is as it says
 abbrev pub All : List Case → Type 0
 All [] = Unit
 All (c ∷ cs) = Holds c × All cs

@@ -16,7 +16,7 @@ use Rattle.reassembly.specs.declared.Label.{Label}
 use Rattle.reassembly.specs.declared.Reply.{Reply}
 use Rattle.reassembly.specs.Record.{headAt, withHead, entryAt, withEntry, outside, pieceAt, cleared}
 use Rattle.reassembly.specs.Slots.{firstFrom, isOpenAs, isFree}
-use Rattle.reassembly.specs.Message.{messageOf, joinsOutside}
+use Rattle.reassembly.specs.Joining.{messageOf, joinsOutside}
 use Rattle.reassembly.specs.Judge.{pick, sameLabel, again, misfits, moreOf, grownBy, isComplete, newHead, noHead, isOld}
 use Rattle.reassembly.specs.Calls.{lent, After, after, bare, keptRec, keptRoom, finished, putIn, compared, added, openedIn, openedNow, takenPiece, lentShort, badSize, offNumber, firstCall, followOnCall, sweptAt, sweptTo}
 

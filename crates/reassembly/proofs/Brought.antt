@@ -9,7 +9,7 @@ use lib.Dec.{ltb, leb}
 use lib.ListN.{length, set}
 use borrow.Author.Tests.{ltb-false}
 use Rattle.wire.specs.Parts.{splice}
-use Rattle.reassembly.specs.Store.{Piece, Message, Store, Rebuilt, Answer, idOf, placeOf, plus, badLength, badNumber, repeats, clashes, tooMuch, complete, rebuiltOf, tooShort, refused, answer, step}
+use Rattle.reassembly.specs.Store.{Piece, Message, Store, Rebuilt, Answer, idOf, slotOf, plus, badLength, badNumber, repeats, clashes, tooMuch, complete, rebuiltOf, tooShort, refused, answer, step}
 use Rattle.reassembly.specs.Calls.{After, bare}
 use Rattle.reassembly.specs.Stands.{Agrees, replyFor, laidOut}
 
@@ -51,7 +51,7 @@ sober cap s p k m =
 
 pub step-sober : (cap : ℕ) (s : Store) (p : Piece) (second : ℕ) → Sober cap (step cap s p second)
 unfolding step
-step-sober cap s p second = sober cap s p (placeOf (idOf p) s) _
+step-sober cap s p second = sober cap s p (slotOf (idOf p) s) _
 
 module _ (out : List ℕ) (x : After) (a : Answer) (g : Agrees out x a) where
   -- a call's reply has the answer's number

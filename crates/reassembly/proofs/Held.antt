@@ -10,7 +10,7 @@ use lib.ListN.{length, getD, take, drop, set, take-append-drop}
 use lib.Seq.{take-suc, getD-drop, length-take-le}
 use borrow.Author.Tests.{eq-eqb, ne-eqb, eqb-true, eqb-false, ltb-true, ltb-false}
 use Rattle.reassembly.specs.Store.{isHeld, allHeld, someHeld, joined}
-use Rattle.reassembly.specs.Message.{joinedBelow}
+use Rattle.reassembly.specs.Joining.{joinedBelow}
 use Rattle.reassembly.specs.Stands.{heldOf, series}
 use Rattle.reassembly.proofs.Series.{length-series, getD-series}
 

@@ -15,7 +15,7 @@ use Rattle.wire.proofs.Parts.{length-part, splice-join}
 use Rattle.wire.proofs.Tests.{or-neither}
 use Rattle.reassembly.specs.declared.Entry.{Entry}
 use Rattle.reassembly.specs.Record.{roomOf, entryAt, outside, pieceAt}
-use Rattle.reassembly.specs.Message.{pieceOr, joinedBelow, messageOf, outsideOr, someOf, joinsOutside, lengthOr, sumOf}
+use Rattle.reassembly.specs.Joining.{pieceOr, joinedBelow, messageOf, outsideOr, someOf, joinsOutside, lengthOr, sumOf}
 
 pub length-room : (room : List ℕ) (i : ℕ) → 1048560 ≤ length room → i < 16 → length (roomOf room i) ≡ 65535
 unfolding roomOf

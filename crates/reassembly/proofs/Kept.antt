@@ -18,7 +18,7 @@ use Rattle.reassembly.specs.declared.Label.{Label}
 use Rattle.reassembly.specs.Store.{isHeld, allHeld, total, complete}
 use Rattle.reassembly.specs.Record.{headAt, entryAt, withEntry, outside, roomOf, pieceAt}
 use Rattle.reassembly.specs.Judge.{pick, misfits, moreOf, grownBy, isComplete}
-use Rattle.reassembly.specs.Message.{outsideOr, joinsOutside}
+use Rattle.reassembly.specs.Joining.{outsideOr, joinsOutside}
 use Rattle.reassembly.specs.Calls.{keptRec, keptRoom}
 use Rattle.reassembly.specs.Stands.{tableAt, messageWith, heldOf, Fine}
 use Rattle.reassembly.proofs.Table.{total-set, held-of-length}

@@ -15,7 +15,7 @@ use Rattle.reassembly.specs.Store.{Piece, pieceBytes, Message, Store, An
 use Rattle.reassembly.specs.Record.{headAt, withHead, pieceAt}
 use Rattle.reassembly.specs.Slots.{isFree}
 use Rattle.reassembly.specs.Judge.{misfits, moreOf, grownBy, isComplete, noHead}
-use Rattle.reassembly.specs.Message.{pieceOr, joinedBelow, messageOf, joinsOutside}
+use Rattle.reassembly.specs.Joining.{pieceOr, joinedBelow, messageOf, joinsOutside}
 use Rattle.reassembly.specs.Calls.{lent, after, bare, keptRec, keptRoom, finished}
 use Rattle.reassembly.specs.Stands.{series, tableAt, messageWith, slotAt, stands, Fine, Made, labelOf, replyFor, laidOut, Agrees}
 use Rattle.reassembly.proofs.Branches.{good-size}

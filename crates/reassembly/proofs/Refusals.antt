@@ -14,7 +14,7 @@ use Rattle.reassembly.specs.declared.Reply.{Reply}
 use Rattle.reassembly.specs.Record.{headAt, entryAt}
 use Rattle.reassembly.specs.Slots.{firstFrom, isOpenAs, isFree}
 use Rattle.reassembly.specs.Judge.{misfits, grownBy, isComplete}
-use Rattle.reassembly.specs.Message.{messageOf, joinsOutside}
+use Rattle.reassembly.specs.Joining.{messageOf, joinsOutside}
 use Rattle.reassembly.specs.Calls.{Lent, After, after, bare, keptRoom, finished, putIn, added, openedIn, openedNow, takenPiece, lentShort, badSize, offNumber, firstCall, followOnCall}
 use Rattle.reassembly.specs.Careful.{Careful, CarefulFirst, CarefulFollowOn}
 use Rattle.reassembly.proofs.Branches.{good-size}

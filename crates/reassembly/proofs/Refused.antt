@@ -13,7 +13,7 @@ use Rattle.reassembly.specs.declared.Label.{Label}
 use Rattle.reassembly.specs.Record.{headAt, entryAt, outside, pieceAt}
 use Rattle.reassembly.specs.Slots.{firstFrom, isOpenAs, isFree}
 use Rattle.reassembly.specs.Judge.{sameLabel, again, misfits, grownBy, isComplete}
-use Rattle.reassembly.specs.Message.{messageOf, joinsOutside}
+use Rattle.reassembly.specs.Joining.{messageOf, joinsOutside}
 use Rattle.reassembly.specs.Calls.{Lent, After, bare, finished, putIn, compared, added, openedIn, openedNow, takenPiece, lentShort, badSize, offNumber, firstCall, followOnCall, renewed, renewal}
 
 -- kept and finished, then the refusals of a first piece, and of a follow-on

@@ -11,7 +11,7 @@ use borrow.Author.Tests.{lt-ltb, le-ltb, ltb-true, ltb-false, le-leb, leb-true, 
 use Rattle.wire.specs.Parts.{same}
 use Rattle.reassembly.specs.declared.Head.{Head}
 use Rattle.reassembly.specs.declared.Label.{Label}
-use Rattle.reassembly.specs.Store.{Piece, first, follow, idOf, pieceBytes, Message, Store, isHeld, findId, findFree, placeOf, messageOr, plus, badLength, badNumber, repeats, clashes, refused, answer, step}
+use Rattle.reassembly.specs.Store.{Piece, first, follow, idOf, pieceBytes, Message, Store, isHeld, findId, findFree, slotOf, messageOr, plus, badLength, badNumber, repeats, clashes, refused, answer, step}
 use Rattle.reassembly.specs.Record.{headAt, entryAt, outside, pieceAt, cleared}
 use Rattle.reassembly.specs.Slots.{firstFrom, isOpenAs, isFree}
 use Rattle.reassembly.specs.Judge.{sameLabel, again, misfits, grownBy, isComplete, newHead}
@@ -179,7 +179,7 @@ module _ (rec room out : List ℕ) (made : Made rec room) (p : Piece) (second : 
 
   step-open : (k : ℕ) → firstFrom (isOpenAs rec (l .id)) 0 16 ≡ k → k < 16 → isFree rec k ≡ false
       → step (length out) s p second ≡ answer (length out) s p k (messageWith (headAt rec k) rec room k)
-  unfolding step placeOf messageOr
+  unfolding step slotOf messageOr
   step-open k e hk u =
       let q : findId (idOf p) s ≡ k = found ∙ e in
       let t : getD s k none ≡ some (messageWith (headAt rec k) rec room k) = at-slot k hk ∙ slot-used k u in
@@ -190,7 +190,7 @@ module _ (rec room out : List ℕ) (made : Made rec room) (p : Piece) (second : 
 
   step-new : 16 ≤ firstFrom (isOpenAs rec (l .id)) 0 16
       → step (length out) s p second ≡ answer (length out) s p (firstFrom (isFree rec) 0 16) (messageOr none (idOf p) second)
-  unfolding step placeOf
+  unfolding step slotOf
   step-new n =
       let q : ltb (findId (idOf p) s) (length s) ≡ false = le-ltb (findId (idOf p) s) (length s) (omega (arith, found, sixteen)) in
       rw (q, free-none s, vacant) refl

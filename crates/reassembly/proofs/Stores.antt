@@ -11,7 +11,7 @@ use lib.ListN.{length, getD, take, drop, set, replicate, length-map, length-repl
 use lib.Seq.{getD-drop, getD-take, ext-getD, length-take-le}
 use borrow.Author.Tests.{eq-eqb, ne-eqb, lt-ltb, le-ltb, le-leb, lt-leb, eqb-true, eqb-false, ltb-true, ltb-false}
 use Rattle.wire.proofs.Same.{eq-same}
-use Rattle.reassembly.specs.Store.{Piece, first, follow, idOf, numberOf, finalOf, pieceBytes, Message, Store, empty, allHeld, someHeld, total, joined, findId, findFree, placeOf, messageOr, plus, badLength, badNumber, repeats, clashes, tooMuch, complete, rebuiltOf, tooShort, refused, answer, step, sweptOne, sweep}
+use Rattle.reassembly.specs.Store.{Piece, first, follow, idOf, numberOf, finalOf, pieceBytes, Message, Store, empty, allHeld, someHeld, total, joined, findId, findFree, slotOf, messageOr, plus, badLength, badNumber, repeats, clashes, tooMuch, complete, rebuiltOf, tooShort, refused, answer, step, sweptOne, sweep}
 use Rattle.reassembly.proofs.Table.{held-of-length, total-set, total-set-le, total-take, length-joined, none-held}
 
 -- ---- the parts of a piece
@@ -70,15 +70,15 @@ find-miss id (none ∷ s) f = ap suc (find-miss id s (λ k. f (suc k)))
 find-miss id (some x ∷ s) f = rw (ne-eqb (x .id) id (λ e. f 0 x refl e)) (ap suc (find-miss id s (λ k. f (suc k))))
 
 -- A piece of a message that is open goes to a place that holds it;
-pub place-open : (id : ℕ) (s : Store) (k : ℕ) (m : Message) → getD s k none ≡ some m → m .id ≡ id → Hit id s (placeOf id s)
-unfolding placeOf
+pub place-open : (id : ℕ) (s : Store) (k : ℕ) (m : Message) → getD s k none ≡ some m → m .id ≡ id → Hit id s (slotOf id s)
+unfolding slotOf
 place-open id s k m e q =
     let h : Hit id s (findId id s) = find-hit id s k m e q in
     rw (lt-ltb (findId id s) (length s) (h .inside)) h
 
 -- of one that is not, to the first free place,
-pub place-new : (id : ℕ) (s : Store) → ((k : ℕ) (m : Message) → getD s k none ≡ some m → m .id ≡ id → ⊥) → placeOf id s ≡ findFree s
-unfolding placeOf
+pub place-new : (id : ℕ) (s : Store) → ((k : ℕ) (m : Message) → getD s k none ≡ some m → m .id ≡ id → ⊥) → slotOf id s ≡ findFree s
+unfolding slotOf
 place-new id s f = rw (find-miss id s f, le-ltb (length s) (length s) (omega arith)) refl
 
 -- which is one of the store's if one of them is free.
@@ -237,7 +237,7 @@ not-too-short cap m h = le-ltb cap (length (rebuiltOf m .bytes)) h
 -- ---- the answer to a piece
 
 -- A step is the answer at the piece's place to the message that stands there.
-pub step-is : (cap : ℕ) (s : Store) (p : Piece) (second k : ℕ) (m : Message) → placeOf (idOf p) s ≡ k → messageOr (getD s k none) (idOf p) second ≡ m → step cap s p second ≡ answer cap s p k m
+pub step-is : (cap : ℕ) (s : Store) (p : Piece) (second k : ℕ) (m : Message) → slotOf (idOf p) s ≡ k → messageOr (getD s k none) (idOf p) second ≡ m → step cap s p second ≡ answer cap s p k m
 unfolding step
 step-is cap s p second k m a b = rw (a, b) refl
 
@@ -279,9 +279,9 @@ whole-fits m p e =
 -- so a step is the same with every assembly buffer of 65,535 bytes or more.
 pub step-enough : (cap : ℕ) → 65535 ≤ cap → (s : Store) (p : Piece) (second : ℕ) → step cap s p second ≡ step 65535 s p second
 unfolding step answer
-step-enough cap h s p second = go (messageOr (getD s (placeOf (idOf p) s) none) (idOf p) second) _ refl
+step-enough cap h s p second = go (messageOr (getD s (slotOf (idOf p) s) none) (idOf p) second) _ refl
   where
-    go : (m : Message) (b : Bool) → tooMuch m p ≡ b → answer cap s p (placeOf (idOf p) s) m ≡ answer 65535 s p (placeOf (idOf p) s) m
+    go : (m : Message) (b : Bool) → tooMuch m p ≡ b → answer cap s p (slotOf (idOf p) s) m ≡ answer 65535 s p (slotOf (idOf p) s) m
     go m true e = rw e refl
     go m false e =
         let w : length (rebuiltOf (plus m p) .bytes) ≤ 65535 = whole-fits m p e in

@@ -11,7 +11,7 @@ use Rattle.reassembly.specs.declared.Reply.{Reply}
 use Rattle.reassembly.specs.Sizes.{messageSize, slotSize, roomSize, recordSize}
 use Rattle.reassembly.specs.Record.{headAt, withHead, entryAt, withEntry, cleared, outside, pieceAt}
 use Rattle.reassembly.specs.Slots.{firstFrom, isOpenAs, isFree}
-use Rattle.reassembly.specs.Message.{messageOf, joinsOutside}
+use Rattle.reassembly.specs.Joining.{messageOf, joinsOutside}
 use Rattle.reassembly.specs.Judge.{again, misfits, grownBy, isComplete, newHead, noHead, isOld}
 
 -- What a call is lent beside a piece: the store's record, the room for the pieces, the assembly buffer.
@@ -20,6 +20,7 @@ pub record Lent : Type 0 where
   pub room : List ℕ
   pub out : List ℕ
 
+-- these three as one
 abbrev pub lent : List ℕ → List ℕ → List ℕ → Lent
 lent rec room out = record { rec = rec; room = room; out = out }
 
@@ -28,6 +29,7 @@ pub record After : Type 0 where
   pub reply : Reply
   pub left : Lent
 
+-- these two as one
 abbrev pub after : Reply → Lent → After
 after r x = record { reply = r; left = x }
 
@@ -61,7 +63,7 @@ cameOut x i g m =
     after (record { number = 60; kind = g .kind; expires = g .expires; length = length m })
     (lent (withHead (x .rec) i noHead) (x .room) (splice (x .out) 0 m))
 
--- the message is finished by v as the label's number: 59, or 56, or it comes out
+-- the message is finished by v as the label's number: 59 where the record names bytes outside for a piece that would be joined, or 56, or it comes out
 unfoldable pub finished : Lent → ℕ → Label → Head → List ℕ → After
 finished x i l g v =
     cond (joinsOutside (x .rec) i (l .number) (g .last + 1)) (refuses 59 x)
@@ -103,7 +105,7 @@ takenPiece x l second v =
     cond (ltb (firstFrom (isOpenAs (x .rec) (l .id)) 0 16) 16) (added x (firstFrom (isOpenAs (x .rec) (l .id)) 0 16) l v)
     (openedNow x l second v)
 
--- 59: the lent record or room is short
+-- 59 before all else: the lent record or room is short. (That the record names bytes outside is asked only of pieces that the call reads: docs/DECISIONS.md)
 unfoldable pub lentShort : List ℕ → List ℕ → Bool
 lentShort rec room = ltb (length rec) recordSize || ltb (length room) roomSize
 
@@ -143,10 +145,10 @@ sweptTo second rec (suc n) = sweptAt second (sweptTo second rec n) n
 unfoldable pub swept : ℕ → List ℕ → List ℕ
 swept second rec = cond (ltb (length rec) recordSize) rec (sweptTo second rec 16)
 
--- a new store: 59 where the record is short, else the record is all zero
+-- a new store: its record is zeros, and what is lent behind it stays; a short record stays
 unfoldable pub renewed : List ℕ → List ℕ
 renewed rec = cond (ltb (length rec) recordSize) rec (splice rec 0 (replicate recordSize 0))
 
--- what making it new answers
+-- what making it new answers: 59 where the record is short
 unfoldable pub renewal : List ℕ → ℕ
 renewal rec = cond (ltb (length rec) recordSize) 59 0

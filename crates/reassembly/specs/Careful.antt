@@ -23,8 +23,10 @@ pub record Careful (x : Lent) (y : After) : Type 0 where
   pub refusal : (y .reply .number ≡ 0) ⊎ ((y .reply .number ≡ 60) ⊎ (y ≡ after (y .reply) x))
   pub own-room : (y .left .room ≡ x .room) ⊎ InSlot (x .room) (y .left .room)
 
+-- so is a first piece's call, whatever it is lent
 abbrev pub CarefulFirst : Type 0
 CarefulFirst = (x : Lent) (l : Label) (second : ℕ) (v : List ℕ) → Careful x (firstCall x l second v)
 
+-- and a follow-on piece's
 abbrev pub CarefulFollowOn : Type 0
 CarefulFollowOn = (x : Lent) (l : Label) (second : ℕ) (v : List ℕ) → Careful x (followOnCall x l second v)

@@ -7,6 +7,7 @@ use Rattle.wire.specs.Parts.{same}
 use Rattle.reassembly.specs.declared.Head.{Head}
 use Rattle.reassembly.specs.declared.Label.{Label}
 
+-- the first number where a test holds, else the second
 abbrev pub pick : Bool → ℕ → ℕ → ℕ
 pick true a b = a
 pick false a b = b

@@ -3,7 +3,7 @@ pub mod Sizes
 pub mod Store
 pub mod Record
 pub mod Slots
-pub mod Message
+pub mod Joining
 pub mod Judge
 pub mod Calls
 pub mod Stands

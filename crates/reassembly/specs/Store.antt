@@ -13,23 +13,27 @@ pub data Piece : Type 0 where
   first : (id kind expires : ℕ) (bytes : List ℕ) → Piece
   follow : (id number : ℕ) (final : Bool) (bytes : List ℕ) → Piece
 
+-- the id of a piece's message
 unfoldable pub idOf : Piece → ℕ
 idOf (first id kind expires bytes) = id
 idOf (follow id number final bytes) = id
 
+-- its number: a first fragment is number 0
 unfoldable pub numberOf : Piece → ℕ
 numberOf (first id kind expires bytes) = 0
 numberOf (follow id number final bytes) = number
 
+-- whether it is marked as the last
 unfoldable pub finalOf : Piece → Bool
 finalOf (first id kind expires bytes) = false
 finalOf (follow id number final bytes) = final
 
+-- its bytes
 unfoldable pub pieceBytes : Piece → List ℕ
 pieceBytes (first id kind expires bytes) = bytes
 pieceBytes (follow id number final bytes) = bytes
 
--- A message being rebuilt. `table` has 128 places, the bytes held of each number. A piece has at least one byte, so [] says "not held".
+-- A message being rebuilt. `table` has the bytes held of each of 128 numbers. A piece has at least one byte, so [] says "not held".
 -- `kind` and `expires` are the head, once number 0 is held. `last` is the last number, once it is known, and 0 before: a last piece is a follow-on.
 pub record Message : Type 0 where
   pub id : ℕ
@@ -39,10 +43,11 @@ pub record Message : Type 0 where
   pub last : ℕ
   pub table : List (List ℕ)
 
--- 16 places, each free or a message
+-- 16 slots, each free or a message
 abbrev pub Store : Type 0
 Store = List (Option Message)
 
+-- all of them free
 abbrev pub empty : Store
 empty = replicate 16 none
 
@@ -58,41 +63,46 @@ pub record Answer : Type 0 where
   pub out : Option Rebuilt
   pub store : Store
 
--- Whether a number is held, all of some are, some of them is; their bytes counted, and one after the other.
+-- Whether a number is held: a held piece has bytes.
 abbrev pub isHeld : List ℕ → Bool
 isHeld [] = false
 isHeld (b ∷ bs) = true
 
+-- all of some numbers are held
 abbrev pub allHeld : List (List ℕ) → Bool
 allHeld [] = true
 allHeld (x ∷ xs) = isHeld x && allHeld xs
 
+-- one of some numbers is held
 abbrev pub someHeld : List (List ℕ) → Bool
 someHeld [] = false
 someHeld (x ∷ xs) = isHeld x || someHeld xs
 
+-- how many bytes are held of them
 abbrev pub total : List (List ℕ) → ℕ
 total [] = 0
 total (x ∷ xs) = length x + total xs
 
+-- these bytes, one piece after the other
 abbrev pub joined : List (List ℕ) → List ℕ
 joined [] = []
 joined (x ∷ xs) = x ++ joined xs
 
--- The place of the open message with this id, and the first free place. Where there is none, the number of places.
+-- The slot of the open message with this id; where there is none, the number of slots.
 unfoldable pub findId : ℕ → Store → ℕ
 findId id [] = 0
 findId id (none ∷ s) = suc (findId id s)
 findId id (some m ∷ s) = cond (eqb (m .id) id) 0 (suc (findId id s))
 
+-- The first free slot; where there is none, the number of slots.
 unfoldable pub findFree : Store → ℕ
 findFree [] = 0
 findFree (none ∷ s) = 0
 findFree (some m ∷ s) = suc (findFree s)
 
--- Where a piece of this id goes: to its open message, else to the first free place.
-unfoldable pub placeOf : ℕ → Store → ℕ
-placeOf id s = cond (ltb (findId id s) (length s)) (findId id s) (findFree s)
+-- Where a piece of this id goes: to its open message, else to the first free slot.
+unfoldable pub slotOf : ℕ → Store → ℕ
+slotOf id s = cond (ltb (findId id s) (length s)) (findId id s) (findFree s)
 
 -- What stands there: the open message, or a new one with nothing held.
 unfoldable pub messageOr : Option Message → ℕ → ℕ → Message
@@ -137,6 +147,7 @@ tooMuch m p = ltb messageSize (total (m .table) + length (pieceBytes p))
 unfoldable pub complete : Message → Bool
 complete m = ltb 0 (m .last) && allHeld (take (suc (m .last)) (m .table))
 
+-- What comes out of it: its head, and the pieces up to the last one after the other.
 unfoldable pub rebuiltOf : Message → Rebuilt
 rebuiltOf m = record { kind = m .kind; expires = m .expires; bytes = joined (take (suc (m .last)) (m .table)) }
 
@@ -144,10 +155,11 @@ rebuiltOf m = record { kind = m .kind; expires = m .expires; bytes = joined (tak
 unfoldable pub tooShort : ℕ → Message → Bool
 tooShort cap m = ltb cap (length (rebuiltOf m .bytes))
 
+-- A refusal: its number, and the store as it was.
 unfoldable pub refused : ℕ → Store → Answer
 refused n s = record { number = n; out = none; store = s }
 
--- The answer to a piece for the message m at the place k, in the order of the numbers' table. `cap` is the assembly buffer's length.
+-- The answer to a piece for the message m in slot k, in the order of the numbers' table; 52 where there is no slot k. `cap` is the assembly buffer's length.
 unfoldable pub answer : ℕ → Store → Piece → ℕ → Message → Answer
 answer cap s p k m =
     cond (badLength p) (refused 50 s)
@@ -161,17 +173,18 @@ answer cap s p k m =
     (record { number = 60; out = some (rebuiltOf (plus m p)); store = set s k none }))
     (record { number = 0; out = none; store = set s k (some (plus m p)) })))))))
 
--- A piece comes at the second `second`.
+-- A piece comes at a second.
 unfoldable pub step : ℕ → Store → Piece → ℕ → Answer
 step cap s p second =
-    let k : ℕ = placeOf (idOf p) s in
+    let k : ℕ = slotOf (idOf p) s in
     answer cap s p k (messageOr (getD s k none) (idOf p) second)
 
--- A sweep drops exactly the messages with `second` at least 30 above the second of the piece that opened them.
+-- A sweep at a second frees a slot where that second is at least 30 above the one of the piece that opened the message.
 unfoldable pub sweptOne : ℕ → Option Message → Option Message
 sweptOne second none = none
 sweptOne second (some m) = cond (leb (m .opened + 30) second) none (some m)
 
+-- It drops exactly those messages.
 unfoldable pub sweep : ℕ → Store → Store
 sweep second s = map (sweptOne second) s
 

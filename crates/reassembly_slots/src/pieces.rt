@@ -9,7 +9,7 @@ ghost use lib.ListN.{length};
 ghost use Rattle.wire.specs.Parts.{splice};
 ghost use Rattle.reassembly.specs.Sizes.{slotSize, roomSize, recordSize};
 ghost use Rattle.reassembly.specs.Record.{entryAt, outside, pieceAt};
-ghost use Rattle.reassembly.specs.Message.{pieceOr, messageOf, outsideOr, joinsOutside, lengthOr, sumOf};
+ghost use Rattle.reassembly.specs.Joining.{pieceOr, messageOf, outsideOr, joinsOutside, lengthOr, sumOf};
 
 // What the record says of a piece or a message: whether it names bytes outside its slot's room, and the length.
 pub struct Measured {

@@ -1,4 +1,4 @@
--- Numbers in bytes, either byte first, for every width.
+-- Numbers in bytes, the low byte first (little) or the high byte first (big), for every width.
 use mathlib.Core.List.{List, [], _∷_, reverse}
 use Prim.Native.Nat.{ℕ, zero, suc, _+_, _*_, _/_, _%_, _<_}
 use lib.ListN.{getD}
@@ -26,9 +26,10 @@ littleBytes (suc n) x = x % 256 ∷ littleBytes n (x / 256)
 unfoldable pub bigBytes : ℕ → ℕ → List ℕ
 bigBytes n x = reverse (littleBytes n x)
 
--- the number of n bytes at place o of l
+-- the number of n bytes at place o of l, the low byte first
 unfoldable pub littleAt : ℕ → List ℕ → ℕ → ℕ
 littleAt n l o = little (part l o n)
 
+-- the number of n bytes at place o of l, the high byte first
 unfoldable pub bigAt : ℕ → List ℕ → ℕ → ℕ
 bigAt n l o = big (part l o n)

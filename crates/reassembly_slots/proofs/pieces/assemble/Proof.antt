@@ -6,7 +6,7 @@ use mathlib.Core.Path.{_≡_, refl, sym, ap, _∙_}
 use Prim.Native.Nat.{ℕ, _≤_, _-_, _+_}
 use Rattle.wire.specs.Parts.{splice}
 use Rattle.wire.proofs.Slices.{splice-none}
-use Rattle.reassembly.specs.Message.{pieceOr, joinedBelow, messageOf, outsideOr, joinsOutside}
+use Rattle.reassembly.specs.Joining.{pieceOr, joinedBelow, messageOf, outsideOr, joinsOutside}
 use Rattle.reassembly.proofs.Joined.{more-length, more-mono, laid-turn, none-of}
 use Rattle.reassembly_slots.proofs.pieces.assemble.Statement.{statement}
 use Rattle.reassembly_slots.proofs.pieces.assemble.Tie as tie

@@ -4,7 +4,7 @@ use Prim.Native.Nat.{ℕ, _+_}
 use native.Mathlib.Omega.{arith}
 use lib.ListN.{length}
 use Rattle.wire.specs.Parts.{splice}
-use Rattle.reassembly.specs.Message.{pieceOr}
+use Rattle.reassembly.specs.Joining.{pieceOr}
 use Rattle.reassembly.proofs.Joined.{piece-given, piece-held, outside-held}
 use borrow.Author.Needs.{needs}
 use Rattle.reassembly_slots.proofs.pieces.lay_down.Statement.{statement}

@@ -2,7 +2,7 @@ use mathlib.Core.Path.{_≡_, refl, ap, _∙_}
 use Prim.Native.Nat.{_≤_, _-_, _+_, _*_}
 use native.Mathlib.Omega.{arith}
 use lib.ListN.{length}
-use Rattle.reassembly.specs.Message.{outsideOr, someOf, joinsOutside, lengthOr, sumOf}
+use Rattle.reassembly.specs.Joining.{outsideOr, someOf, joinsOutside, lengthOr, sumOf}
 use Rattle.reassembly.proofs.Joined.{some-turn, sum-turn}
 use borrow.Author.Needs.{needs}
 use Rattle.reassembly_slots.proofs.pieces.measure.Statement.{statement}

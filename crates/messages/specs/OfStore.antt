@@ -34,11 +34,13 @@ pub record OfStore (s : List ℕ) (at id : ℕ) (out : List ℕ) (x : Delivery) 
   pub store : stands (x .left .rec) (x .left .room) ≡ a .store
   pub made : Made (x .left .rec) (x .left .room)
 
+-- a first fragment's block, on a record and a room that calls made, is answered as the store answers its piece
 abbrev pub FirstOfStore : Type 0
 FirstOfStore =
     (s : List ℕ) (at : ℕ) (rec room out : List ℕ) (second k i x : ℕ) (p : Part) → Made rec room → i < 4294967296 → x < 4294967296 → second < 18446744073709551616
     → OfStore s at i out (deliveredBy s at (lent rec room out) second (Body.FirstFragment k i x p)) (step (length out) (stands rec room) (first i k x (part s (p .start) (p .len))) second)
 
+-- and so is a follow-on fragment's
 abbrev pub FollowOfStore : Type 0
 FollowOfStore =
     (s : List ℕ) (at : ℕ) (rec room out : List ℕ) (second n : ℕ) (l : Bool) (i : ℕ) (p : Part) → Made rec room → i < 4294967296 → second < 18446744073709551616

@@ -5,7 +5,7 @@ use Prim.Native.Nat.{ℕ, zero, suc, _+_}
 use lib.Dec.{eqb}
 use Rattle.reassembly.specs.Record.{entryAt, outside, pieceAt}
 
--- number k of slot i, where number m is v
+-- the bytes of number k of slot i; those of number m are v, the piece that the call brings
 unfoldable pub pieceOr : List ℕ → List ℕ → ℕ → ℕ → List ℕ → ℕ → List ℕ
 pieceOr rec room i m v k = cond (eqb k m) v (pieceAt rec room i k)
 
@@ -14,10 +14,11 @@ abbrev pub joinedBelow : (ℕ → List ℕ) → ℕ → List ℕ
 joinedBelow f zero = []
 joinedBelow f (suc n) = joinedBelow f n ++ f n
 
+-- the message of the numbers below n of slot i, where number m is v
 unfoldable pub messageOf : List ℕ → List ℕ → ℕ → ℕ → List ℕ → ℕ → List ℕ
 messageOf rec room i m v n = joinedBelow (pieceOr rec room i m v) n
 
--- the entry of number k of slot i names bytes outside, where number m is in the call's hand and none of the record's
+-- the entry of number k of slot i names bytes outside; number m is the piece that the call brings, so its entry is not asked
 unfoldable pub outsideOr : List ℕ → ℕ → ℕ → ℕ → Bool
 outsideOr rec i m k = cond (eqb k m) false (outside (entryAt rec i k))
 
