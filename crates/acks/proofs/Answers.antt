@@ -8,31 +8,31 @@ use lib.Dec.{ltb}
 use lib.ListN.{length}
 use Rattle.wire.specs.Parts.{splice}
 use Rattle.acks.specs.Runs.{flags, named, wholePairs, runSum}
-use Rattle.acks.specs.Expanding.{expansion, expandAnswer, expandOf, listAfter}
+use Rattle.acks.specs.Expanding.{ackNumbers, expandAnswer, expandOf, listAfter}
 
 -- a last odd byte is no run: 2 below 6, then a pair of 1 and 3, and the 7 is passed over
 pub odd-byte : expandAnswer 6 2 (1 ∷ 3 ∷ 7 ∷ []) 7 ≡ 0
-unfolding expandAnswer expansion named flags wholePairs runSum
+unfolding expandAnswer ackNumbers named flags wholePairs runSum
 odd-byte = refl
 
 -- where both hold, 44 is given: one number below 0, and no room for any
 pub reach-first : expandAnswer 0 1 [] 0 ≡ 44
-unfolding expandAnswer expansion named flags wholePairs runSum
+unfolding expandAnswer ackNumbers named flags wholePairs runSum
 reach-first = refl
 
 module _ (through count : ℕ) (ps : List ℕ) where
   pub says-44 : (room : ℕ) → through < count + runSum (wholePairs ps) → expandAnswer through count ps room ≡ 44
   unfolding expandAnswer
   says-44 room h =
-      ap (λ (b : Bool). cond b 44 (cond (ltb room (length (expansion through count ps))) 46 0)) (lt-ltb through (count + runSum (wholePairs ps)) h)
+      ap (λ (b : Bool). cond b 44 (cond (ltb room (length (ackNumbers through count ps))) 46 0)) (lt-ltb through (count + runSum (wholePairs ps)) h)
 
-  pub says-46 : (room : ℕ) → count + runSum (wholePairs ps) ≤ through → room < length (expansion through count ps) → expandAnswer through count ps room ≡ 46
+  pub says-46 : (room : ℕ) → count + runSum (wholePairs ps) ≤ through → room < length (ackNumbers through count ps) → expandAnswer through count ps room ≡ 46
   unfolding expandAnswer
-  says-46 room h g = rw (le-ltb through (count + runSum (wholePairs ps)) h, lt-ltb room (length (expansion through count ps)) g)
+  says-46 room h g = rw (le-ltb through (count + runSum (wholePairs ps)) h, lt-ltb room (length (ackNumbers through count ps)) g)
 
-  pub says-0 : (room : ℕ) → count + runSum (wholePairs ps) ≤ through → length (expansion through count ps) ≤ room → expandAnswer through count ps room ≡ 0
+  pub says-0 : (room : ℕ) → count + runSum (wholePairs ps) ≤ through → length (ackNumbers through count ps) ≤ room → expandAnswer through count ps room ≡ 0
   unfolding expandAnswer
-  says-0 room h g = rw (le-ltb through (count + runSum (wholePairs ps)) h, le-ltb room (length (expansion through count ps)) g)
+  says-0 room h g = rw (le-ltb through (count + runSum (wholePairs ps)) h, le-ltb room (length (ackNumbers through count ps)) g)
 
   module _ (list : List ℕ) where
     pub is-44 : through < count + runSum (wholePairs ps) →
@@ -40,13 +40,13 @@ module _ (through count : ℕ) (ps : List ℕ) where
     unfolding expandOf listAfter
     is-44 h = (rw (says-44 (length list) h), rw (says-44 (length list) h))
 
-    pub is-46 : count + runSum (wholePairs ps) ≤ through → length list < length (expansion through count ps) →
+    pub is-46 : count + runSum (wholePairs ps) ≤ through → length list < length (ackNumbers through count ps) →
         (record { number = 46; count = 0 } ≡ expandOf through count ps (length list)) × (list ≡ listAfter through count ps list)
     unfolding expandOf listAfter
     is-46 h g = (rw (says-46 (length list) h g), rw (says-46 (length list) h g))
 
-    pub is-0 : count + runSum (wholePairs ps) ≤ through → length (expansion through count ps) ≤ length list →
-        (record { number = 0; count = length (expansion through count ps) } ≡ expandOf through count ps (length list))
-        × (splice list 0 (expansion through count ps) ≡ listAfter through count ps list)
+    pub is-0 : count + runSum (wholePairs ps) ≤ through → length (ackNumbers through count ps) ≤ length list →
+        (record { number = 0; count = length (ackNumbers through count ps) } ≡ expandOf through count ps (length list))
+        × (splice list 0 (ackNumbers through count ps) ≡ listAfter through count ps list)
     unfolding expandOf listAfter
     is-0 h g = (rw (says-0 (length list) h g), rw (says-0 (length list) h g))

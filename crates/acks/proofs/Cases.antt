@@ -7,11 +7,11 @@ use Rattle.acks.specs.History.{answerTo}
 use Rattle.acks.specs.Tracking.{fresh, mark, isDuplicate, clearUp, marksAfter, acceptOf, registerAnswer, registerOf, registerAll}
 use Rattle.acks.specs.Runs.{inc, runs, flags, named, wholePairs}
 use Rattle.acks.specs.Reporting.{reportOfRuns, reportOf, ackInfo}
-use Rattle.acks.specs.Expanding.{expansion}
+use Rattle.acks.specs.Expanding.{ackNumbers}
 
 -- (c)
-pub case-c : expansion 10 2 (1 ∷ 3 ∷ []) ≡ 10 ∷ 9 ∷ 8 ∷ 6 ∷ 5 ∷ 4 ∷ []
-unfolding expansion named flags wholePairs
+pub case-c : ackNumbers 10 2 (1 ∷ 3 ∷ []) ≡ 10 ∷ 9 ∷ 8 ∷ 6 ∷ 5 ∷ 4 ∷ []
+unfolding ackNumbers named flags wholePairs
 case-c = refl
 
 -- (h)

@@ -13,7 +13,7 @@ use Rattle.acks.specs.Window.{falling, window, keep}
 use Rattle.acks.specs.Tracking.{mark}
 use Rattle.acks.specs.Runs.{runs, flags, named, wholePairs, runSum}
 use Rattle.acks.specs.Reporting.{padded, refusedReport, silent, reportOfRuns, reportOf, ackInfo, pairBytes}
-use Rattle.acks.specs.Expanding.{expansion, expandOf, listAfter}
+use Rattle.acks.specs.Expanding.{ackNumbers, expandOf, listAfter}
 use Rattle.acks.proofs.RunLengths.{flags-runs}
 use Rattle.acks.proofs.Falling.{named-keep, length-falling, map-falling, window-size, length-keep}
 use Rattle.acks.proofs.Counting.{runs-count, runs-short, length-flags, whole-even}
@@ -24,7 +24,7 @@ use Rattle.acks.proofs.Tracks.{Tracks}
 pub record Faithful (top : ℕ) (got : ℕ → Bool) (r : AckInfo) : Type 0 where
   pub number-is : r .number ≡ 0
   pub through-is : r .through ≡ top
-  pub names-are : expansion (r .through) (r .count) (pairBytes r) ≡ keep got (window top)
+  pub names-are : ackNumbers (r .through) (r .count) (pairBytes r) ≡ keep got (window top)
   -- 1, the count and all numbers of the pairs add up to the window's size
   pub adds-up : r .count + runSum (wholePairs (pairBytes r)) ≡ min top 254
   pub even : length (pairBytes r) % 2 ≡ 0
@@ -36,7 +36,7 @@ module _ (top : ℕ) (got : ℕ → Bool) (h : got top ≡ true) where
   below = map got (falling (top - 1) (min top 254))
 
   made : (cs : List ℕ) → cs ≡ runs true below → Faithful top got (reportOfRuns top cs)
-  unfolding reportOfRuns padded pairBytes window expansion falling runSum
+  unfolding reportOfRuns padded pairBytes window ackNumbers falling runSum
   made [] e = absurd (omega (arith, runs-count true below .0, ap length e))
   made (c ∷ ps) e =
       record {
@@ -104,7 +104,7 @@ pub expands : (top : ℕ) (got : ℕ → Bool) (r : AckInfo) → Faithful top go
     × (listAfter (r .through) (r .count) (pairBytes r) list ≡ splice list 0 (keep got (window top)))
 expands top got r f list big =
     let low : r .count + runSum (wholePairs (pairBytes r)) ≤ r .through = omega (arith, f .adds-up, f .through-is) in
-    let few : length (expansion (r .through) (r .count) (pairBytes r)) ≤ length list =
+    let few : length (ackNumbers (r .through) (r .count) (pairBytes r)) ≤ length list =
     omega (arith, ap length (f .names-are), length-keep got (window top), window-size top) in
     let z = is-0 (r .through) (r .count) (pairBytes r) list low few in (
       sym (z .0) ∙ ap (λ l. record { number = 0; count = length l }) (f .names-are),

@@ -8,7 +8,7 @@ use Rattle.wire.specs.Parts.{splice}
 use Rattle.wire.proofs.Parts.{length-splice, splice-then, stores-splice}
 use Rattle.acks.specs.Window.{falling}
 use Rattle.acks.specs.Runs.{wholePairs, runSum}
-use Rattle.acks.specs.Expanding.{expansion}
+use Rattle.acks.specs.Expanding.{ackNumbers}
 use Rattle.acks.proofs.Falling.{length-falling}
 use Rattle.wire.proofs.Slices.{splice-none, splice-more}
 use Rattle.acks.proofs.Named.{falling-snoc, left, left-step, left-end, total-step, numbers-start, length-numbers}
@@ -111,10 +111,10 @@ module _ (ps l0 : List ℕ) (place top : ℕ) (big : place + length (left ps 0 (
       s .now-is ∙ ap (splice l0 place) (sym e)
 
 -- the through number, the count numbers below it and what the pairs name are all the numbers
-pub filled-in : (through count : ℕ) (ps l l2 l3 : List ℕ) → length (expansion through count ps) ≤ length l →
+pub filled-in : (through count : ℕ) (ps l l2 l3 : List ℕ) → length (ackNumbers through count ps) ≤ length l →
     l2 ≡ splice (set l 0 through) 1 (falling (through - 1) count) →
     l3 ≡ splice l2 (1 + count) (left ps 0 (through - count - 1)) →
-    l3 ≡ splice l 0 (expansion through count ps)
+    l3 ≡ splice l 0 (ackNumbers through count ps)
 filled-in through count ps l l2 l3 h e f =
     let n = length-numbers through count ps in
     let fc : length (falling (through - 1) count) ≡ count = length-falling (through - 1) count in

@@ -7,13 +7,13 @@ use native.Mathlib.Omega.{arith}
 use lib.ListN.{length, drop, getD, length-append}
 use Rattle.acks.specs.Window.{falling}
 use Rattle.acks.specs.Runs.{flags, wholePairs, runSum}
-use Rattle.acks.specs.Expanding.{expansion}
+use Rattle.acks.specs.Expanding.{ackNumbers}
 use Rattle.acks.proofs.Falling.{length-falling}
 use Rattle.acks.proofs.Named.{left, left-step, left-end, total-step, total-end, length-named, numbers-start}
 
 pub record Summed (through count : ℕ) (ps : List ℕ) (sum names i : ℕ) : Type 0 where
   pub sums : count + runSum (wholePairs ps) ≡ sum + runSum (wholePairs (drop i ps))
-  pub names-are : length (expansion through count ps) ≡ names + length (left ps i 0)
+  pub names-are : length (ackNumbers through count ps) ≡ names + length (left ps i 0)
   pub at : i ≤ length ps
   pub few : names ≤ sum + 1
   pub bounded : sum ≤ through + 510
@@ -53,6 +53,6 @@ summed-step through count ps sum names i nack ack s h l a p b q =
         )
 
 pub summed-end : (through count : ℕ) (ps : List ℕ) (sum names i : ℕ) → Summed through count ps sum names i → length ps ≤ i + 1 →
-    (sum ≡ count + runSum (wholePairs ps)) × (names ≡ length (expansion through count ps))
+    (sum ≡ count + runSum (wholePairs ps)) × (names ≡ length (ackNumbers through count ps))
 summed-end through count ps sum names i s h =
     (omega (arith, s .sums, total-end ps i h), omega (arith, s .names-are, ap length (left-end ps i 0 h)))

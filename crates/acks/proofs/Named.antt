@@ -9,7 +9,7 @@ use lib.ListN.{length, drop, getD, replicate, length-append, length-drop}
 use lib.Seq.{drop-cons}
 use Rattle.acks.specs.Window.{falling}
 use Rattle.acks.specs.Runs.{flags, named, wholePairs, runSum}
-use Rattle.acks.specs.Expanding.{expansion}
+use Rattle.acks.specs.Expanding.{ackNumbers}
 use Rattle.acks.proofs.Falling.{length-falling}
 
 -- ---- whole pairs
@@ -99,14 +99,14 @@ unfolding runSum
 total-end ps i h = ap runSum (at-end ps i h)
 
 pub numbers-start : (through count : ℕ) (ps : List ℕ) →
-    expansion through count ps ≡ (through ∷ falling (through - 1) count) ++ left ps 0 (through - count - 1)
-unfolding expansion named flags
+    ackNumbers through count ps ≡ (through ∷ falling (through - 1) count) ++ left ps 0 (through - count - 1)
+unfolding ackNumbers named flags
 numbers-start through count ps =
     let e : through - 1 - count ≡ through - count - 1 = omega arith in
     ap (λ x. through ∷ x) (named-take (through - 1) count (flags false (wholePairs ps)) ∙ rw e)
 
 pub length-numbers : (through count : ℕ) (ps : List ℕ) →
-    length (expansion through count ps) ≡ 1 + count + length (left ps 0 (through - count - 1))
+    length (ackNumbers through count ps) ≡ 1 + count + length (left ps 0 (through - count - 1))
 length-numbers through count ps =
     ap length (numbers-start through count ps)
     ∙ length-append (through ∷ falling (through - 1) count) (left ps 0 (through - count - 1))

@@ -21,7 +21,7 @@ use Rattle.acks.specs.Reporting.{refusedReport, silent, pairBytes, repor
 use Rattle.acks.specs.Recorded.{trackerShort, trackerAt, registerThere, recordAfter, duplicateThere, reportThere}
 use Rattle.acks.specs.AckBlocks.{ackBlock, ackWriting, ackRoom}
 use Rattle.acks.specs.Runs.{wholePairs, runSum}
-use Rattle.acks.specs.Expanding.{expansion, expandAnswer, expandOf, listAfter}
+use Rattle.acks.specs.Expanding.{ackNumbers, expandAnswer, expandOf, listAfter}
 use Rattle.acks.proofs.Faithful.{faithful, unheard}
 use Rattle.acks.proofs.Recording as Recording
 
@@ -156,7 +156,7 @@ expand-leaves through count ps list ne = rw (ne-eqb (expandAnswer through count 
 
 pub expand-numbers : (through count : ℕ) (ps : List ℕ) (room : ℕ) → (expandOf through count ps room .number ≡ 0 → ⊥) → OneOf (44 ∷ 46 ∷ []) (expandOf through count ps room .number)
 unfolding expandOf expandAnswer
-expand-numbers through count ps room = go (ltb through (count + runSum (wholePairs ps))) (ltb room (length (expansion through count ps)))
+expand-numbers through count ps room = go (ltb through (count + runSum (wholePairs ps))) (ltb room (length (ackNumbers through count ps)))
   where
     go : (a b : Bool) → (_≡_ {A = ℕ} (cond a 44 (cond b 46 0)) 0 → ⊥) → OneOf (44 ∷ 46 ∷ []) (cond a 44 (cond b 46 0))
     go true b ne = inl refl

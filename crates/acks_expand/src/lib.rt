@@ -7,7 +7,7 @@ ghost use lib.ListN.{length, getD};
 ghost use Rattle.wire.specs.Parts.{part, splice};
 ghost use Rattle.acks.specs.Window.{falling};
 ghost use Rattle.acks.specs.Runs.{named, flags, wholePairs, runSum};
-ghost use Rattle.acks.specs.Expanding.{expansion, expandOf, listAfter};
+ghost use Rattle.acks.specs.Expanding.{ackNumbers, expandOf, listAfter};
 use acks::Expanded;
 use blocks::Part;
 use wire::shorter;
@@ -26,7 +26,7 @@ fn byte(s: &[u8], i: usize) -> u32
 
 // Whether count and pairs stay at 0 or above, and if so how many numbers they name.
 fn measure(through: u32, count: u8, pairs: &[u8]) -> Measured
-    ensures { λ r. ⌜ (r .within ≡ leb (count + runSum (wholePairs (now (pairs .entry)))) through) × (r .within ≡ true → r .names ≡ length (expansion through count (now (pairs .entry)))) ⌝ }
+    ensures { λ r. ⌜ (r .within ≡ leb (count + runSum (wholePairs (now (pairs .entry)))) through) × (r .within ≡ true → r .names ≡ length (ackNumbers through count (now (pairs .entry)))) ⌝ }
 {
     let limit = through as u64;
     let mut sum = count as u64;
@@ -84,8 +84,8 @@ fn fill_pairs(pairs: &[u8], list: &mut [u32], place: usize, top: u32)
 
 // The numbers, into a list that holds them.
 fn fill(through: u32, count: u8, pairs: &[u8], list: &mut [u32])
-    requires { ⌜ (count + runSum (wholePairs (now pairs)) ≤ through) × (length (expansion through count (now pairs)) ≤ length (now list)) ⌝ }
-    ensures { λ _. ⌜ now (list .exit) ≡ splice (now (list .entry)) 0 (expansion through count (now (pairs .entry))) ⌝ }
+    requires { ⌜ (count + runSum (wholePairs (now pairs)) ≤ through) × (length (ackNumbers through count (now pairs)) ≤ length (now list)) ⌝ }
+    ensures { λ _. ⌜ now (list .exit) ≡ splice (now (list .entry)) 0 (ackNumbers through count (now (pairs .entry))) ⌝ }
 {
     let first = count as u32;
     list[0] = through;

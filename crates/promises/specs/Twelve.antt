@@ -13,7 +13,7 @@ use Rattle.blocks.specs.Claims.{shownBytes}
 use Rattle.blocks_listing.specs.Listing.{Listing, no, blocksOf}
 use Rattle.acks.specs.Tracking.{fresh, registerOf}
 use Rattle.acks.specs.Reporting.{reportOfRuns}
-use Rattle.acks.specs.Expanding.{expansion}
+use Rattle.acks.specs.Expanding.{ackNumbers}
 use Rattle.reassembly.specs.Store as Store
 use Rattle.promises.specs.Acks.{reportAfter}
 
@@ -42,7 +42,7 @@ abbrev pub Holds : Case → Type 0
 Holds (reads s r bytes) = (readAt s 0 ≡ r) × (readBytes s r ≡ bytes)
 Holds (lists s l) = blocksOf s ≡ l
 Holds (expands s t c size next pairs names) =
-    (readAt s 0 ≡ Got.Block (Body.Ack t c (bytesAt 8 (length pairs))) size next) × (part s 8 (length pairs) ≡ pairs) × (expansion t c pairs ≡ names)
+    (readAt s 0 ≡ Got.Block (Body.Ack t c (bytesAt 8 (length pairs))) size next) × (part s 8 (length pairs) ≡ pairs) × (ackNumbers t c pairs ≡ names)
 Holds (reports calls through runs) = reportAfter calls ≡ reportOfRuns through runs
 Holds (registers n answer) = registerOf fresh n .answer ≡ answer
 Holds (rebuilds ps answers) = Store.stepNumbers Store.empty ps ≡ answers

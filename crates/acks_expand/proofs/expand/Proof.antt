@@ -5,7 +5,7 @@ use native.Mathlib.Omega.{arith}
 use lib.ListN.{length}
 use borrow.Author.Tests.{leb-true, leb-false, not-true, not-false}
 use Rattle.acks.specs.Runs.{wholePairs, runSum}
-use Rattle.acks.specs.Expanding.{expansion}
+use Rattle.acks.specs.Expanding.{ackNumbers}
 use Rattle.acks.proofs.Answers.{is-44, is-46, is-0}
 use borrow.Author.Needs.{needs}
 use Rattle.acks_expand.proofs.expand.Statement.{statement}
@@ -28,8 +28,8 @@ returns-2 c =
     let m = c .before .before .before .before .measure in
     let w : m .result .within ≡ true = not-false _ (c .before .before .if1 .left) in
     let h : a .count + runSum (wholePairs (a .pairs .now)) ≤ a .through = leb-true _ _ (sym (m .ensures .0) ∙ w) in
-    let n : m .result .names ≡ length (expansion (a .through) (a .count) (a .pairs .now)) = m .ensures .1 w in
-    let g : length (a .list .now) < length (expansion (a .through) (a .count) (a .pairs .now)) = omega arith in
+    let n : m .result .names ≡ length (ackNumbers (a .through) (a .count) (a .pairs .now)) = m .ensures .1 w in
+    let g : length (a .list .now) < length (ackNumbers (a .through) (a .count) (a .pairs .now)) = omega arith in
     is-46 (a .through) (a .count) (a .pairs .now) (a .list .now) h g
 
 fill-requires : tie.Need-fill-requires
@@ -37,7 +37,7 @@ fill-requires c κs =
     let a = c .before .before .before .before .before .before .before .before .args in
     let m = c .before .before .before .before .before .measure in
     let w : m .result .within ≡ true = not-false _ (c .before .before .before .if1 .left) in
-    let n : m .result .names ≡ length (expansion (a .through) (a .count) (a .pairs .now)) = m .ensures .1 w in
+    let n : m .result .names ≡ length (ackNumbers (a .through) (a .count) (a .pairs .now)) = m .ensures .1 w in
     (leb-true _ _ (sym (m .ensures .0) ∙ w), omega arith)
 
 same-length : tie.Need-same-length
@@ -49,8 +49,8 @@ returns-3 c =
     let m = c .before .before .before .before .before .before .before .before .measure in
     let w : m .result .within ≡ true = not-false _ (c .before .before .before .before .before .before .if1 .left) in
     let h : a .count + runSum (wholePairs (a .pairs .now)) ≤ a .through = leb-true _ _ (sym (m .ensures .0) ∙ w) in
-    let n : m .result .names ≡ length (expansion (a .through) (a .count) (a .pairs .now)) = m .ensures .1 w in
-    let g : length (expansion (a .through) (a .count) (a .pairs .now)) ≤ length (a .list .now) = omega arith in
+    let n : m .result .names ≡ length (ackNumbers (a .through) (a .count) (a .pairs .now)) = m .ensures .1 w in
+    let g : length (ackNumbers (a .through) (a .count) (a .pairs .now)) ≤ length (a .list .now) = omega arith in
     let r = is-0 (a .through) (a .count) (a .pairs .now) (a .list .now) h g in
     (rw n (r .0), c .before .before .fill .ensures ∙ r .1)
 
