@@ -15,7 +15,7 @@ use Rattle.wire.proofs.Zeros.{littleAt-none}
 use Rattle.acks.specs.declared.Tracker.{Tracker}
 use Rattle.acks.specs.History.{Packets}
 use Rattle.acks.specs.Tracking.{fresh, clearUp, marksAfter, acceptOf, registerAnswer, registerOf, registerAll}
-use Rattle.acks.specs.Recorded.{trackerShort, trackerAt, trackerBytes, recordAfter, recordAll}
+use Rattle.acks.specs.Recorded.{trackerSize, trackerShort, trackerAt, trackerBytes, recordAfter, recordAll}
 use Rattle.acks.proofs.Ring.{length-clear}
 use Rattle.acks.proofs.Recording.{is-long, read-back}
 
@@ -42,9 +42,9 @@ fits-step t n f h = go (eqb (registerAnswer t n) 0)
 -- r is a record of tracker t, as long as r0 was and with the bytes behind it that r0 had
 record Holds (r0 r : List ℕ) (t : Tracker) : Type 0 where
   is : trackerAt r ≡ t
-  room : 259 ≤ length r
+  room : trackerSize ≤ length r
   size : length r ≡ length r0
-  behind : drop 259 r ≡ drop 259 r0
+  behind : drop trackerSize r ≡ drop trackerSize r0
   fits : TrackerInWidth t
 
 holds-step : (r0 r : List ℕ) (t : Tracker) (n : ℕ) → Holds r0 r t → n < 256 ^ 4 → Holds r0 (recordAfter r n) (registerOf t n .tracker)
@@ -52,7 +52,7 @@ unfolding recordAfter trackerBytes
 holds-step r0 r t n h small =
     let u : Tracker = registerOf t n .tracker in
     let f : TrackerInWidth (registerOf t n .tracker) = fits-step t n (h .fits) small in
-    let size : length (littleBytes 4 (u .highest) ++ u .marks) ≡ 259 =
+    let size : length (littleBytes 4 (u .highest) ++ u .marks) ≡ trackerSize =
     length-append (littleBytes 4 (u .highest)) (u .marks) ∙ omega (arith, length-little 4 (u .highest), f .long) in
     let same : length (splice r 0 (littleBytes 4 (u .highest) ++ u .marks)) ≡ length r =
     length-splice r 0 (littleBytes 4 (u .highest) ++ u .marks) (omega (arith, h .room)) in
@@ -61,7 +61,7 @@ holds-step r0 r t n h small =
       is = read-back r (registerOf t n .tracker) (h .room) (f .small) (f .long);
       room = omega (arith, h .room);
       size = same ∙ h .size;
-      behind = drop-after r 0 (littleBytes 4 (u .highest) ++ u .marks) (omega (arith, h .room)) 259 (omega arith) ∙ h .behind;
+      behind = drop-after r 0 (littleBytes 4 (u .highest) ++ u .marks) (omega (arith, h .room)) trackerSize (omega arith) ∙ h .behind;
       fits = f;
     })
 
@@ -71,12 +71,12 @@ holds-all [] r0 r t h p = h
 holds-all (n ∷ calls) r0 r t h p = holds-all calls r0 (recordAfter r n) (registerOf t n .tracker) (holds-step r0 r t n h (p .0)) (p .1)
 
 -- a record that starts with 259 zeros
-module _ (rec : List ℕ) (zeros : part rec 0 259 ≡ replicate 259 0) where
-  zeros-long : 259 ≤ length rec
-  zeros-long = omega (arith, ap length zeros, length-part-min rec 0 259, length-replicate {A = ℕ} 259 0)
+module _ (rec : List ℕ) (zeros : part rec 0 trackerSize ≡ replicate trackerSize 0) where
+  zeros-long : trackerSize ≤ length rec
+  zeros-long = omega (arith, ap length zeros, length-part-min rec 0 trackerSize, length-replicate {A = ℕ} trackerSize 0)
 
-  zeros-at : (o n : ℕ) → o + n ≤ 259 → part rec (0 + o) n ≡ replicate n 0
-  zeros-at o n h = sym (part-part rec 0 259 o n h) ∙ ap (λ (l : List ℕ). part l o n) zeros ∙ part-alike 0 259 o n h
+  zeros-at : (o n : ℕ) → o + n ≤ trackerSize → part rec (0 + o) n ≡ replicate n 0
+  zeros-at o n h = sym (part-part rec 0 trackerSize o n h) ∙ ap (λ (l : List ℕ). part l o n) zeros ∙ part-alike 0 trackerSize o n h
 
   -- is a new tracker's,
   pub starts : trackerAt rec ≡ fresh
@@ -98,7 +98,7 @@ module _ (rec : List ℕ) (zeros : part rec 0 259 ≡ replicate 259 0) where
     pub in-place-long : trackerShort (recordAll rec calls) ≡ false
     in-place-long = is-long (recordAll rec calls) (held-all .room)
 
-    pub in-place-behind : (length (recordAll rec calls) ≡ length rec) × (drop 259 (recordAll rec calls) ≡ drop 259 rec)
+    pub in-place-behind : (length (recordAll rec calls) ≡ length rec) × (drop trackerSize (recordAll rec calls) ≡ drop trackerSize rec)
     in-place-behind = (held-all .size, held-all .behind)
 
     pub in-place-small : registerAll fresh calls .highest < 256 ^ 4

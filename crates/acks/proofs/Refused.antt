@@ -18,7 +18,7 @@ use Rattle.acks.specs.declared.AckInfo.{AckInfo}
 use Rattle.acks.specs.History.{answerTo}
 use Rattle.acks.specs.Tracking.{mark, isDuplicate, registerAnswer, registerOf}
 use Rattle.acks.specs.Reporting.{refusedReport, silent, pairBytes, reportOf, ackInfo}
-use Rattle.acks.specs.Recorded.{trackerShort, trackerAt, registerThere, recordAfter, duplicateThere, reportThere}
+use Rattle.acks.specs.Recorded.{trackerSize, trackerShort, trackerAt, registerThere, recordAfter, duplicateThere, reportThere}
 use Rattle.acks.specs.AckBlocks.{ackBlock, ackWriting, ackRoom}
 use Rattle.acks.specs.Runs.{wholePairs, runSum}
 use Rattle.acks.specs.Expanding.{ackNumbers, expandAnswer, expandOf, listAfter}
@@ -48,11 +48,11 @@ tracker-numbers t n = answers (t .highest) (isDuplicate (t .highest) (t .marks))
 -- a tracker's record
 pub record-stays : (r : List ℕ) (n : ℕ) → Bytes r → (registerThere r n ≡ 0 → ⊥) → recordAfter r n ≡ r
 unfolding trackerShort registerThere registerOf registerAnswer trackerAt
-record-stays r n bytes = go (ltb (length r) 259) refl
+record-stays r n bytes = go (ltb (length r) trackerSize) refl
   where
-    go : (b : Bool) → ltb (length r) 259 ≡ b → (registerThere r n ≡ 0 → ⊥) → recordAfter r n ≡ r
-    go true q ne = sym (Recording.short-refused r n (ltb-true (length r) 259 q) .1)
-    go false q ne = sym (Recording.refused r (littleAt 4 r 0) n refl (ltb-false (length r) 259 q) (registerThere r n) bytes (rw q refl) ne .1)
+    go : (b : Bool) → ltb (length r) trackerSize ≡ b → (registerThere r n ≡ 0 → ⊥) → recordAfter r n ≡ r
+    go true q ne = sym (Recording.short-refused r n (ltb-true (length r) trackerSize q) .1)
+    go false q ne = sym (Recording.refused r (littleAt 4 r 0) n refl (ltb-false (length r) trackerSize q) (registerThere r n) bytes (rw q refl) ne .1)
 
 pub record-numbers : (r : List ℕ) (n : ℕ) → (registerThere r n ≡ 0 → ⊥) → OneOf (40 ∷ 42 ∷ 43 ∷ 59 ∷ []) (registerThere r n)
 unfolding registerThere

@@ -2,11 +2,12 @@
 use crate::expanded;
 use crate::fields;
 use acks::AckInfo;
+use acks::TRACKER_SIZE;
 use acks::Tracker;
 use blocks::Block;
 use blocks::Read;
 
-fn duplicate(text: &[u8], at: usize, t: Tracker, bytes: [u8; 259]) -> bool {
+fn duplicate(text: &[u8], at: usize, t: Tracker, bytes: [u8; TRACKER_SIZE]) -> bool {
     let n = fields::number(text, at);
     let want = fields::number(text, lines::after(text, at));
     let there = acks_tracker::recorded::is_duplicate_in(&bytes, n);
@@ -106,7 +107,13 @@ fn comes_back(a: AckInfo) -> bool {
     (n == m) & same_window(&theirs, n, &mine, m, a.through)
 }
 
-pub(crate) fn line(kind: u8, text: &[u8], at: usize, t: Tracker, bytes: [u8; 259]) -> bool {
+pub(crate) fn line(
+    kind: u8,
+    text: &[u8],
+    at: usize,
+    t: Tracker,
+    bytes: [u8; TRACKER_SIZE],
+) -> bool {
     if kind == b'd' {
         return duplicate(text, at, t, bytes);
     }

@@ -3,6 +3,7 @@ mod asked;
 mod expanded;
 mod fields;
 
+use acks::TRACKER_SIZE;
 use acks::Tracker;
 use libc::STDIN_FILENO;
 use libc::STDOUT_FILENO;
@@ -14,14 +15,14 @@ struct Turn {
     tracker: Tracker,
 }
 
-fn empty() -> [u8; 259] {
-    [0; 259]
+fn empty() -> [u8; TRACKER_SIZE] {
+    [0; TRACKER_SIZE]
 }
 
 // A tracker that no call made, by value and as bytes: n is the highest, and alone marked.
-fn start(n: u32, bytes: &mut [u8; 259]) -> Tracker {
+fn start(n: u32, bytes: &mut [u8; TRACKER_SIZE]) -> Tracker {
     let mut marks = [0u8; 255];
-    let mut fresh = [0u8; 259];
+    let mut fresh = [0u8; TRACKER_SIZE];
     let i = (n % 255) as usize;
     marks[i] = 1;
     fresh[4 + i] = 1;
@@ -31,7 +32,7 @@ fn start(n: u32, bytes: &mut [u8; 259]) -> Tracker {
 }
 
 // A registration by value and one in place.
-fn register(text: &[u8], at: usize, t: Tracker, bytes: &mut [u8; 259]) -> Turn {
+fn register(text: &[u8], at: usize, t: Tracker, bytes: &mut [u8; TRACKER_SIZE]) -> Turn {
     let n = fields::number(text, at);
     let want = fields::number(text, lines::after(text, at));
     let r = acks_tracker::register(t, n);
@@ -44,7 +45,7 @@ fn register(text: &[u8], at: usize, t: Tracker, bytes: &mut [u8; 259]) -> Turn {
 }
 
 // The line at a place, by its first letter.
-fn line(text: &[u8], at: usize, t: Tracker, bytes: &mut [u8; 259]) -> Turn {
+fn line(text: &[u8], at: usize, t: Tracker, bytes: &mut [u8; TRACKER_SIZE]) -> Turn {
     let kind = fields::letter(text, at);
     let rest = lines::after(text, at);
     if kind == b'n' {

@@ -14,7 +14,7 @@ use Rattle.blocks.specs.declared.Written.the-variants as Wrote
 use Rattle.blocks_listing.specs.declared.Entry.{Entry}
 use Rattle.blocks_listing.specs.Listing.{Listing, ok, no, listingAnswer, entriesAfter}
 use Rattle.acks.specs.declared.AckInfo.{AckInfo}
-use Rattle.acks.specs.Recorded.{trackerShort}
+use Rattle.acks.specs.Recorded.{trackerSize, trackerShort}
 use Rattle.acks.specs.AckBlocks.{ackWriting, ackRoom}
 use Rattle.acks.proofs.Refused.{ack-leaves}
 use Rattle.messages.specs.declared.Received.{Received}
@@ -47,7 +47,7 @@ pub new-stays : (r : List ℕ) → (newAnswer r ≡ 0 → ⊥) → (newAnswer r 
 unfolding newAnswer newRecord
 new-stays r = go (trackerShort r)
   where
-    go : (b : Bool) → (_≡_ {A = ℕ} (cond b 59 0) 0 → ⊥) → _≡_ {A = ℕ} (cond b 59 0) 59 × (cond b r (splice r 0 (replicate 259 0)) ≡ r)
+    go : (b : Bool) → (_≡_ {A = ℕ} (cond b 59 0) 0 → ⊥) → _≡_ {A = ℕ} (cond b 59 0) 59 × (cond b r (splice r 0 (replicate trackerSize 0)) ≡ r)
     go true h = (refl, refl)
     go false h = absurd (h refl)
 

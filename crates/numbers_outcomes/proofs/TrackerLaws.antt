@@ -7,17 +7,18 @@ use lib.ListN.{length, replicate, length-replicate}
 use borrow.Author.Tests.{eq-eqb}
 use Rattle.wire.specs.Parts.{part, splice}
 use Rattle.wire.proofs.Parts.{part-same}
+use Rattle.acks.specs.Recorded.{trackerSize}
 use Rattle.acks.specs.declared.AckInfo.{AckInfo}
 use Rattle.acks.proofs.Recording.{is-long}
 use Rattle.numbers_outcomes.specs.Trackers.{newRecord, reportNumbers, reportPairs}
 
 -- a new record starts with 259 zeros
-pub new-zeros : (r : List ℕ) → 259 ≤ length r → part (newRecord r) 0 259 ≡ replicate 259 0
+pub new-zeros : (r : List ℕ) → trackerSize ≤ length r → part (newRecord r) 0 trackerSize ≡ replicate trackerSize 0
 unfolding newRecord
 new-zeros r h =
-    let z : length (replicate {A = ℕ} 259 0) ≡ 259 = length-replicate {A = ℕ} 259 0 in
+    let z : length (replicate {A = ℕ} trackerSize 0) ≡ trackerSize = length-replicate {A = ℕ} trackerSize 0 in
     rw (is-long r h)
-    (ap (part (splice r 0 (replicate 259 0)) 0) (sym z) ∙ part-same r 0 (replicate 259 0) (omega arith))
+    (ap (part (splice r 0 (replicate trackerSize 0)) 0) (sym z) ∙ part-same r 0 (replicate trackerSize 0) (omega arith))
 
 -- a report that is not refused, as it is lent
 pub report-lent : (r : AckInfo) (out pairs : List ℕ) → r .number ≡ 0

@@ -23,7 +23,7 @@ use Rattle.blocks.specs.Writing.{faulty, writing, roomAfter}
 use Rattle.acks.specs.Tracking.{fresh, mark, registerAnswer, registerOf}
 use Rattle.acks.specs.History.{answerTo}
 use Rattle.acks.specs.Reporting.{refusedReport, reportOf, ackInfo}
-use Rattle.acks.specs.Recorded.{trackerShort, trackerAt, registerThere, recordAfter, reportThere}
+use Rattle.acks.specs.Recorded.{trackerSize, trackerShort, trackerAt, registerThere, recordAfter, reportThere}
 use Rattle.acks.specs.AckBlocks.{ackWriting, ackRoom}
 use Rattle.acks.specs.Runs.{wholePairs, runSum}
 use Rattle.acks.specs.Expanding.{expandAnswer, expandOf, listAfter}
@@ -103,24 +103,24 @@ zeros zero i = omega arith
 zeros (suc n) zero = omega arith
 zeros (suc n) (suc i) = zeros n i
 
-pub too-high : registerThere (replicate 259 0) 256 ≡ 40
+pub too-high : registerThere (replicate trackerSize 0) 256 ≡ 40
 unfolding registerThere trackerShort registerOf registerAnswer answerTo trackerAt littleAt little part
 too-high = refl
 
-pub record-stays : recordAfter (replicate 259 0) 256 ≡ replicate 259 0
-record-stays = demand1 .registered-there (replicate 259 0) 256 (zeros 259) (is-refusal (registerThere (replicate 259 0) 256) 39 too-high) .1
+pub record-stays : recordAfter (replicate trackerSize 0) 256 ≡ replicate trackerSize 0
+record-stays = demand1 .registered-there (replicate trackerSize 0) 256 (zeros trackerSize) (is-refusal (registerThere (replicate trackerSize 0) 256) 39 too-high) .1
 
 -- nothing seen, nothing reported: 41
-pub no-report : reportThere (replicate 259 0) .number ≡ 41
+pub no-report : reportThere (replicate trackerSize 0) .number ≡ 41
 unfolding reportThere trackerShort trackerAt ackInfo reportOf mark refusedReport littleAt little part
 no-report = refl
 
-pub no-ack : ackWriting (reportThere (replicate 259 0)) 3 ≡ Wrote.Refused 41
+pub no-ack : ackWriting (reportThere (replicate trackerSize 0)) 3 ≡ Wrote.Refused 41
 unfolding ackWriting reportThere trackerShort trackerAt ackInfo reportOf mark refusedReport littleAt little part
 no-ack = refl
 
-pub ack-room-stays : ackRoom (reportThere (replicate 259 0)) three ≡ three
-ack-room-stays = demand1 .ack-written .1 (reportThere (replicate 259 0)) three 41 no-ack
+pub ack-room-stays : ackRoom (reportThere (replicate trackerSize 0)) three ≡ three
+ack-room-stays = demand1 .ack-written .1 (reportThere (replicate trackerSize 0)) three 41 no-ack
 
 -- four numbers below 3: 44
 pub below-0 : expandOf 3 4 [] 2 .number ≡ 44

@@ -15,7 +15,7 @@ use Rattle.acks.specs.declared.AckInfo.{AckInfo}
 use Rattle.acks.specs.History.{Packets, answerTo, among, received, highestSeen, newest}
 use Rattle.acks.specs.Tracking.{isDuplicate, registerOf}
 use Rattle.acks.specs.Reporting.{silent, ackInfo, pairBytes}
-use Rattle.acks.specs.Recorded.{trackerShort, trackerAt, registerThere, recordAll, duplicateThere, reportThere}
+use Rattle.acks.specs.Recorded.{trackerSize, trackerShort, trackerAt, registerThere, recordAll, duplicateThere, reportThere}
 use Rattle.acks.specs.AckBlocks.{ackWriting, ackRoom}
 use Rattle.acks.proofs.Faithful.{Faithful, pairs-cut}
 use Rattle.acks.proofs.Histories.{registered-there, duplicate-there, reported-there, tracked, names-newest}
@@ -34,7 +34,7 @@ use Rattle.promises.proofs.Demand1Calls.{is-refusal}
 use Rattle.promises.proofs.Demand2.{demand2, report-faithful, mixed, mixed-received, mixed-newest}
 
 pub tracker-starts : TrackerStarts
-tracker-starts = (part-alike 0 259 0 259 (omega arith), λ rec long. new-zeros rec (omega arith))
+tracker-starts = (part-alike 0 trackerSize 0 trackerSize (omega arith), λ rec long. new-zeros rec (omega arith))
 
 -- a refused report
 unreported : (r : AckInfo) (out pairs room : List ℕ) → r ≡ silent → Unreported r out pairs room

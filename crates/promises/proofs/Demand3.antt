@@ -10,6 +10,7 @@ use native.Mathlib.Decide.{ℕ-discrete}
 use lib.ListN.{length, getD, set, length-set, replicate, length-replicate, length-map, List·getD-map}
 use lib.Seq.{getD-set-same, getD-set-other, ext-getD}
 use borrow.Author.Tests.{eq-eqb, ne-eqb}
+use Rattle.reassembly.specs.Sizes.{messageSize}
 use Rattle.reassembly.specs.Store.{Message, Store, empty}
 use Rattle.reassembly.proofs.Stores.{none≢some, empty-at}
 use Rattle.promises.specs.Demand3.{Cut, Within, noCut, Event, deliver, sweepAt, Tally, noTally, allMarks, begun, done, isOpen, marked, untouched, start, note, count, Allowed, Orderly, Schedule, dueOne, due, act, saidOf, said, storeAfter, timesOne, times, Demand3}
@@ -56,7 +57,7 @@ end-empty cs ts s v all = ext-getD none s empty (v .slots) (λ k h. free k (getD
         let o : (c : ℕ) × Owned cs ts m c = v .owned k m e in
         absurd (false≢true (sym (closed-of (tallyAt ts (o .0)) (all (o .0) (o .1 .inside))) ∙ o .1 .is-open))
 
-module _ (cap : ℕ) (room : 65535 ≤ cap) (cs : List Cut) (within : (c : ℕ) → c < length cs → Within (cutAt cs c)) where
+module _ (cap : ℕ) (room : messageSize ≤ cap) (cs : List Cut) (within : (c : ℕ) → c < length cs → Within (cutAt cs c)) where
   one-event : (ts : List Tally) (s : Store) → Inv cs ts s → (e : Event) → Allowed cs ts e → Orderly cs (note ts e)
       → (saidOf (act cap cs s e) ≡ dueOne cs ts e) × Inv cs (note ts e) (act cap cs s e .store)
   one-event ts s v (deliver c i second) a o = delivered cs within ts s v c i second (a .0) (a .1) (a .2) o cap room

@@ -5,6 +5,7 @@ use Prim.Native.Nat.{ℕ, zero, suc, _≤_, _<_}
 use native.Mathlib.Omega.{arith}
 use lib.Dec.{eqb}
 use lib.ListN.{length, getD}
+use Rattle.reassembly.specs.Sizes.{messageSize}
 use Rattle.reassembly.specs.Store.{Piece, first, follow, Store, step}
 use Rattle.reassembly.specs.Calls.{lent, renewed}
 use Rattle.reassembly.specs.Stands.{stands, Made, Agrees, laidOut}
@@ -33,47 +34,47 @@ event-agrees cs rec room out m hi hx (deliver c i second) hs = piece-agrees rec 
 event-agrees cs rec room out m hi hx (sweepAt second) hs = sweep-agrees second rec room out m
 
 -- an assembly buffer of 65,535 bytes is as good as a longer one
-pub act-enough : (cap : ℕ) → 65535 ≤ cap → (cs : List Cut) (s : Store) (e : Event) → act cap cs s e ≡ act 65535 cs s e
+pub act-enough : (cap : ℕ) → messageSize ≤ cap → (cs : List Cut) (s : Store) (e : Event) → act cap cs s e ≡ act messageSize cs s e
 unfolding act
 act-enough cap h cs s (deliver c i second) = step-enough cap h s (pieceOf (getD cs c noCut) i) second
 act-enough cap h cs s (sweepAt second) = refl
 
 module _ (outs : ℕ → List ℕ) (long : LongEnough outs) (cs : List Cut)
     (hi : (c : ℕ) → getD cs c noCut .id < 4294967296) (hx : (c : ℕ) → getD cs c noCut .expires < 4294967296) where
-  event-at : (n : ℕ) (rec room : List ℕ) → Made rec room → (e : Event) → secondOf e < 18446744073709551616 → Agrees (outs n) (called cs (lent rec room (outs n)) e) (act 65535 cs (stands rec room) e)
+  event-at : (n : ℕ) (rec room : List ℕ) → Made rec room → (e : Event) → secondOf e < 18446744073709551616 → Agrees (outs n) (called cs (lent rec room (outs n)) e) (act messageSize cs (stands rec room) e)
   event-at n rec room m e hs =
       subst (Agrees (outs n) (called cs (lent rec room (outs n)) e)) (act-enough (length (outs n)) (long n) cs (stands rec room) e) (event-agrees cs rec room (outs n) m hi hx e hs)
 
   runs : (es : List Event) (n : ℕ) (rec room : List ℕ) → Made rec room → ((k : ℕ) → secondOf (getD es k (sweepAt 0)) < 18446744073709551616)
-      → (map (λ x. x .reply) (afterEach cs outs n rec room es) ≡ map replyDue (said 65535 cs (stands rec room) es))
-      × (map (λ x. x .left .out) (afterEach cs outs n rec room es) ≡ buffersDue outs n (said 65535 cs (stands rec room) es))
-      × (stands (afterLast cs outs n rec room es .rec) (afterLast cs outs n rec room es .room) ≡ storeAfter 65535 cs (stands rec room) es)
+      → (map (λ x. x .reply) (afterEach cs outs n rec room es) ≡ map replyDue (said messageSize cs (stands rec room) es))
+      × (map (λ x. x .left .out) (afterEach cs outs n rec room es) ≡ buffersDue outs n (said messageSize cs (stands rec room) es))
+      × (stands (afterLast cs outs n rec room es .rec) (afterLast cs outs n rec room es .room) ≡ storeAfter messageSize cs (stands rec room) es)
       × Made (afterLast cs outs n rec room es .rec) (afterLast cs outs n rec room es .room)
   runs [] n rec room m hs = (refl, refl, refl, m)
   runs (e ∷ es) n rec room m hs =
-      let a : Agrees (outs n) (called cs (lent rec room (outs n)) e) (act 65535 cs (stands rec room) e) = event-at n rec room m e (hs 0) in
+      let a : Agrees (outs n) (called cs (lent rec room (outs n)) e) (act messageSize cs (stands rec room) e) = event-at n rec room m e (hs 0) in
       let ih = runs es (suc n) (called cs (lent rec room (outs n)) e .left .rec) (called cs (lent rec room (outs n)) e .left .room) (a .made) (λ k. hs (suc k)) in
-      (rw (reply-is e rec room a, ih .0, a .store) refl, rw (out-is e rec room a, ih .1, a .store) refl, ih .2 ∙ ap (λ (s : Store). storeAfter 65535 cs s es) (a .store), ih .3)
+      (rw (reply-is e rec room a, ih .0, a .store) refl, rw (out-is e rec room a, ih .1, a .store) refl, ih .2 ∙ ap (λ (s : Store). storeAfter messageSize cs s es) (a .store), ih .3)
     where
-      reply-is : (e : Event) (rec room : List ℕ) → Agrees (outs n) (called cs (lent rec room (outs n)) e) (act 65535 cs (stands rec room) e)
-          → called cs (lent rec room (outs n)) e .reply ≡ replyDue (saidOf (act 65535 cs (stands rec room) e))
+      reply-is : (e : Event) (rec room : List ℕ) → Agrees (outs n) (called cs (lent rec room (outs n)) e) (act messageSize cs (stands rec room) e)
+          → called cs (lent rec room (outs n)) e .reply ≡ replyDue (saidOf (act messageSize cs (stands rec room) e))
       reply-is e rec room a = unfold replyDue saidOf in a .reply
 
-      out-is : (e : Event) (rec room : List ℕ) → Agrees (outs n) (called cs (lent rec room (outs n)) e) (act 65535 cs (stands rec room) e)
-          → called cs (lent rec room (outs n)) e .left .out ≡ laidOut (outs n) (saidOf (act 65535 cs (stands rec room) e) .out)
+      out-is : (e : Event) (rec room : List ℕ) → Agrees (outs n) (called cs (lent rec room (outs n)) e) (act messageSize cs (stands rec room) e)
+          → called cs (lent rec room (outs n)) e .left .out ≡ laidOut (outs n) (saidOf (act messageSize cs (stands rec room) e) .out)
       out-is e rec room a = unfold saidOf in a .delivered
 
 -- Demand 3, of the calls
 pub demand3-calls : Demand3Calls
 demand3-calls outs long rec room m z cs within es widths q =
-    let o : Fulfilled 65535 cs es = demand3 65535 (omega arith) cs within es q in
+    let o : Fulfilled messageSize cs es = demand3 messageSize (omega arith) cs within es q in
     let r = runs outs long cs (widths .ids) (widths .expirations) es 0 rec room m (widths .seconds) in
-    let d : said 65535 cs (stands rec room) es ≡ due cs (start cs) es = ap (λ (s : Store). said 65535 cs s es) z ∙ o .as-due in
+    let d : said messageSize cs (stands rec room) es ≡ due cs (start cs) es = ap (λ (s : Store). said messageSize cs s es) z ∙ o .as-due in
     record {
       replies = r .0 ∙ ap (map replyDue) d;
       buffers = r .1 ∙ ap (buffersDue outs 0) d;
       once = λ c h. ap (times c es) (sym (o .as-due)) ∙ o .once c h;
-      ends-empty = r .2 ∙ ap (λ (s : Store). storeAfter 65535 cs s es) z ∙ o .ends-empty;
+      ends-empty = r .2 ∙ ap (λ (s : Store). storeAfter messageSize cs s es) z ∙ o .ends-empty;
       made = r .3;
     }
 

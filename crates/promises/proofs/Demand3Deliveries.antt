@@ -14,6 +14,7 @@ use Rattle.blocks.specs.Writing.{sizeOf}
 use Rattle.blocks.proofs.Puts.{is-length}
 use Rattle.blocks.proofs.Faults.{first-whole, follow-on-whole}
 use Rattle.blocks.proofs.WriteThenRead.{write-then-read}
+use Rattle.reassembly.specs.Sizes.{messageSize}
 use Rattle.reassembly.specs.Store.{Piece, first, follow, idOf, pieceBytes, Store, Rebuilt, step}
 use Rattle.reassembly.specs.Stands.{stands, Made, laidOut}
 use Rattle.reassembly.proofs.Stores.{step-enough}
@@ -102,9 +103,9 @@ module _ (loans : ℕ → Loan) (long : LongEnough (λ n. loans n .out)) (cs : L
     (hi : (c : ℕ) → getD cs c noCut .id < 4294967296) (hx : (c : ℕ) → getD cs c noCut .expires < 4294967296) where
   -- one event
   event : (n : ℕ) (rec room : List ℕ) → Made rec room → (e : Event) → secondOf e < 18446744073709551616 → HandedOne cs (loans n) e
-      → (d : Said) → Calm d → saidOf (act 65535 cs (stands rec room) e) ≡ d
+      → (d : Said) → Calm d → saidOf (act messageSize cs (stands rec room) e) ≡ d
       → (tellsOf (handed (loans n) rec room e) ≡ tellsDue cs (loans n) e d)
-      × (stands (handed (loans n) rec room e .left .rec) (handed (loans n) rec room e .left .room) ≡ act 65535 cs (stands rec room) e .store)
+      × (stands (handed (loans n) rec room e .left .rec) (handed (loans n) rec room e .left .room) ≡ act messageSize cs (stands rec room) e .store)
       × Made (handed (loans n) rec room e .left .rec) (handed (loans n) rec room e .left .room)
   unfolding handed deliverCall act saidOf tellsDue
   event n rec room m (sweepAt second) hs h d calm q = (refl, sweep-stands second rec room (m .record-long), sweep-made second rec room m)
@@ -112,8 +113,8 @@ module _ (loans : ℕ → Loan) (long : LongEnough (λ n. loans n .out)) (cs : L
       let p = pieceOf (getD cs c noCut) i in
       let l = loans n in
       let x : Delivery = deliveredAt (l .payload) (l .at) (lent rec room (l .out)) second in
-      let o : OfStore (l .payload) (l .at) (getD cs c noCut .id) (l .out) x (step 65535 (stands rec room) p second) =
-      subst (λ (k : ℕ). OfStore (l .payload) (l .at) k (l .out) x (step 65535 (stands rec room) p second)) (piece-id (getD cs c noCut) i)
+      let o : OfStore (l .payload) (l .at) (getD cs c noCut .id) (l .out) x (step messageSize (stands rec room) p second) =
+      subst (λ (k : ℕ). OfStore (l .payload) (l .at) k (l .out) x (step messageSize (stands rec room) p second)) (piece-id (getD cs c noCut) i)
       (subst (OfStore (l .payload) (l .at) (idOf p) (l .out) x) (step-enough (length (l .out)) (long n) (stands rec room) p second)
       (carried (l .payload) (l .at) rec room (l .out) p second h (piece-in-width (getD cs c noCut) i (hi c) (hx c)) hs m))
       in (
@@ -125,28 +126,28 @@ module _ (loans : ℕ → Loan) (long : LongEnough (λ n. loans n .out)) (cs : L
       )
 
   runs : (es : List Event) (n : ℕ) (ts : List Tally) (rec room : List ℕ) → Made rec room → ((k : ℕ) → secondOf (getD es k (sweepAt 0)) < 18446744073709551616)
-      → Handed cs loans n es → said 65535 cs (stands rec room) es ≡ due cs ts es
+      → Handed cs loans n es → said messageSize cs (stands rec room) es ≡ due cs ts es
       → (tellings loans n rec room es ≡ allDue cs loans n es (due cs ts es))
-      × (stands (handedLast loans n rec room es .rec) (handedLast loans n rec room es .room) ≡ storeAfter 65535 cs (stands rec room) es)
+      × (stands (handedLast loans n rec room es .rec) (handedLast loans n rec room es .room) ≡ storeAfter messageSize cs (stands rec room) es)
       × Made (handedLast loans n rec room es .rec) (handedLast loans n rec room es .room)
   runs [] n ts rec room m hs h q = (refl, refl, m)
   runs (e ∷ es) n ts rec room m hs h q =
-      let here : saidOf (act 65535 cs (stands rec room) e) ≡ dueOne cs ts e = cc in
-      let then : said 65535 cs (act 65535 cs (stands rec room) e .store) es ≡ due cs (note ts e) es = cc in
+      let here : saidOf (act messageSize cs (stands rec room) e) ≡ dueOne cs ts e = cc in
+      let then : said messageSize cs (act messageSize cs (stands rec room) e .store) es ≡ due cs (note ts e) es = cc in
       let v = event n rec room m e (hs 0) (h .0) (dueOne cs ts e) (due-calm cs ts e) here in
-      let ih = runs es (suc n) (note ts e) (handed (loans n) rec room e .left .rec) (handed (loans n) rec room e .left .room) (v .2) (λ k. hs (suc k)) (h .1) (ap (λ (s : Store). said 65535 cs s es) (v .1) ∙ then) in
-      (rw (v .0, ih .0) refl, ih .1 ∙ ap (λ (s : Store). storeAfter 65535 cs s es) (v .1), ih .2)
+      let ih = runs es (suc n) (note ts e) (handed (loans n) rec room e .left .rec) (handed (loans n) rec room e .left .room) (v .2) (λ k. hs (suc k)) (h .1) (ap (λ (s : Store). said messageSize cs s es) (v .1) ∙ then) in
+      (rw (v .0, ih .0) refl, ih .1 ∙ ap (λ (s : Store). storeAfter messageSize cs s es) (v .1), ih .2)
 
 -- Demand 3, of the payloads' blocks
 pub demand3-deliveries : Demand3Deliveries
 demand3-deliveries loans long rec room m z cs within es widths h q =
-    let o : Fulfilled 65535 cs es = demand3 65535 (omega arith) cs within es q in
-    let d : said 65535 cs (stands rec room) es ≡ due cs (start cs) es = ap (λ (s : Store). said 65535 cs s es) z ∙ o .as-due in
+    let o : Fulfilled messageSize cs es = demand3 messageSize (omega arith) cs within es q in
+    let d : said messageSize cs (stands rec room) es ≡ due cs (start cs) es = ap (λ (s : Store). said messageSize cs s es) z ∙ o .as-due in
     let r = runs loans long cs (widths .ids) (widths .expirations) es 0 (start cs) rec room m (widths .seconds) h d in
     record {
       tells = r .0;
       once = λ c i. ap (times c es) (sym (o .as-due)) ∙ o .once c i;
-      ends-empty = r .1 ∙ ap (λ (s : Store). storeAfter 65535 cs s es) z ∙ o .ends-empty;
+      ends-empty = r .1 ∙ ap (λ (s : Store). storeAfter messageSize cs s es) z ∙ o .ends-empty;
       made = r .2;
     }
 

@@ -16,6 +16,7 @@ use Rattle.wire.proofs.Tests.{and-both}
 use Rattle.blocks.specs.Extent.{isI2npType, firstFragment, takenAt, extentAt}
 use Rattle.blocks.specs.Reading.{bytesAt, blockAt, readAt}
 use Rattle.blocks.specs.Writing.{roomAfter}
+use Rattle.reassembly.specs.Sizes.{messageSize, roomSize, recordSize}
 use Rattle.reassembly.specs.Store.{first, empty, total, idOf, numberOf, finalOf, pieceBytes, findId, findFree, slotOf, messageOr, plus, badLength, badNumber, repeats, clashes, tooMuch, complete, rebuiltOf, tooShort, refused, answer, step, sweptOne, sweep}
 use Rattle.reassembly.specs.Stands.{stands, Made, laidOut}
 use Rattle.numbers_outcomes.specs.Outcomes.{outcome}
@@ -53,7 +54,7 @@ withinTest c =
     leb 2 (length (c .pieces)) && leb (length (c .pieces)) 128
     && allBelow (length (c .pieces)) (λ i. leb 1 (length (getD (c .pieces) i [])))
     && allBelow (length (c .pieces)) (λ i. leb (length (getD (c .pieces) i [])) 1500)
-    && leb (total (c .pieces)) 65535
+    && leb (total (c .pieces)) messageSize
 
 within-of : (c : Cut) → withinTest c ≡ true → Within c
 unfolding withinTest
@@ -67,7 +68,7 @@ within-of c e =
       most = leb-true (length (c .pieces)) 128 (f .1);
       some-bytes = λ i h. leb-true 1 (length (getD (c .pieces) i [])) (all-below (length (c .pieces)) (λ i. leb 1 (length (getD (c .pieces) i []))) (d .1) i h);
       few-bytes = λ i h. leb-true (length (getD (c .pieces) i [])) 1500 (all-below (length (c .pieces)) (λ i. leb (length (getD (c .pieces) i [])) 1500) (b .1) i h);
-      in-all = leb-true (total (c .pieces)) 65535 (a .1);
+      in-all = leb-true (total (c .pieces)) messageSize (a .1);
     }
 
 open-inside : (ts : List Tally) (c : ℕ) → isOpen (getD ts c noTally) ≡ true → c < length ts
@@ -151,12 +152,12 @@ within-limits : (c : ℕ) → c < length threeCuts → Within (getD threeCuts c 
 unfolding withinTest
 within-limits c h = within-of (getD threeCuts c noCut) (all-below 3 (λ c. withinTest (getD threeCuts c noCut)) refl c h)
 
-pub example : Fulfilled 65535 threeCuts mixture
-example = demand3 65535 (omega arith) threeCuts within-limits mixture keeps-rules
+pub example : Fulfilled messageSize threeCuts mixture
+example = demand3 messageSize (omega arith) threeCuts within-limits mixture keeps-rules
 
 -- and what the store says of it, computed
 pub example-said :
-    said 65535 threeCuts empty mixture
+    said messageSize threeCuts empty mixture
     ≡ record { number = 0; out = none } ∷ record { number = 0; out = none } ∷ record { number = 0; out = none } ∷ record { number = 54; out = none }
     ∷ record { number = 0; out = none } ∷ record { number = 60; out = some (record { kind = 20; expires = 900; bytes = 1 ∷ 2 ∷ 3 ∷ 4 ∷ 5 ∷ [] }) }
     ∷ record { number = 0; out = none } ∷ record { number = 0; out = none }
@@ -172,13 +173,13 @@ oneId =
     ∷ record { id = 7; kind = 1; expires = 900; pieces = (3 ∷ []) ∷ (4 ∷ []) ∷ [] }
     ∷ []
 
-pub one-id-said : said 65535 oneId empty (deliver 0 0 100 ∷ deliver 1 0 101 ∷ []) ≡ record { number = 0; out = none } ∷ record { number = 55; out = none } ∷ []
+pub one-id-said : said messageSize oneId empty (deliver 0 0 100 ∷ deliver 1 0 101 ∷ []) ≡ record { number = 0; out = none } ∷ record { number = 55; out = none } ∷ []
 unfolding act saidOf step answer slotOf findId findFree messageOr plus badLength badNumber repeats clashes tooMuch complete rebuiltOf tooShort refused idOf numberOf finalOf pieceBytes same
 one-id-said = refl
 
 -- a piece that comes again after its message came out: it is kept, where 54 would be due.
 pub came-out-said :
-    said 65535 oneId empty (deliver 0 0 100 ∷ deliver 0 1 101 ∷ deliver 0 1 102 ∷ [])
+    said messageSize oneId empty (deliver 0 0 100 ∷ deliver 0 1 101 ∷ deliver 0 1 102 ∷ [])
     ≡ record { number = 0; out = none } ∷ record { number = 60; out = some (record { kind = 20; expires = 900; bytes = 1 ∷ 2 ∷ [] }) } ∷ record { number = 0; out = none } ∷ []
 unfolding act saidOf step answer slotOf findId findFree messageOr plus badLength badNumber repeats clashes tooMuch complete rebuiltOf tooShort refused idOf numberOf finalOf pieceBytes same
 came-out-said = refl
@@ -214,7 +215,7 @@ example-calls outs long rec room m z =
     demand3-calls outs long rec room m z threeCuts within-limits mixture widths keeps-rules
 
 -- on a record of zeros, and once more on what that left
-module _ (outs : ℕ → List ℕ) (long : LongEnough outs) (n : ℕ) (room : List ℕ) (lr : 8576 ≤ n) (lm : 1048560 ≤ length room) where
+module _ (outs : ℕ → List ℕ) (long : LongEnough outs) (n : ℕ) (room : List ℕ) (lr : recordSize ≤ n) (lm : roomSize ≤ length room) where
   pub example-zeros : FulfilledByCalls threeCuts outs (replicate n 0) room mixture
   example-zeros = example-calls outs long (replicate n 0) room (store-starts .zero-filled n room lr lm .0) (store-starts .zero-filled n room lr lm .1)
 

@@ -10,6 +10,7 @@ use native.Mathlib.Omega.{arith}
 use native.Mathlib.Decide.{ℕ-discrete}
 use lib.ListN.{length, getD, set, length-set}
 use lib.Seq.{getD-set-same, getD-set-other, set-getD}
+use Rattle.reassembly.specs.Sizes.{messageSize}
 use Rattle.reassembly.specs.Store.{Message, Store, findFree, slotOf, messageOr, plus, answer, step}
 use Rattle.reassembly.proofs.Series.{free-none}
 use Rattle.reassembly.proofs.Stores.{none≢some, Hit, place-open, place-new, free-inside, message-open, step-is, sweep-same}
@@ -285,7 +286,7 @@ module _ (cs : List Cut) (within : (c : ℕ) → c < length cs → Within (cutAt
       sole l₁ l₂ n₁ n₂ e₁ e₂ q (no a) (no b) = v .apart l₁ l₂ n₁ n₂ (sym (at-other l₁ a) ∙ e₁) (sym (at-other l₂ b) ∙ e₂) q
 
   -- the piece is answered as is due, and the invariant holds again
-  module _ (cap : ℕ) (room : 65535 ≤ cap) where
+  module _ (cap : ℕ) (room : messageSize ≤ cap) where
     step-answer : (f : Found cs ts s c second) → step cap s (pieceOf (cutAt cs c) i) second ≡ answer cap s (pieceOf (cutAt cs c) i) (f .at) (f .there)
     step-answer f =
         step-is cap s (pieceOf (cutAt cs c) i) second (f .at) (f .there)

@@ -5,6 +5,7 @@ use mathlib.Core.List.{List}
 use mathlib.Core.Option.{Option, none, some}
 use Prim.Native.Nat.{ℕ, _≤_, _<_}
 use lib.ListN.{length, getD, set, length-set}
+use Rattle.reassembly.specs.Sizes.{messageSize}
 use Rattle.reassembly.specs.Store.{Message, Store, Rebuilt, Answer, plus, complete, answer}
 use Rattle.reassembly.proofs.Stores as Stores
 use Rattle.promises.specs.Demand3.{Cut, Within, pieceOf, cutFrom, allMarks}
@@ -19,7 +20,7 @@ not-full none e = refl
 not-full (some m) e = absurd (true≢false e)
 
 -- The answer to piece i of c at the place k < 16 whose message m holds the marked pieces of c.
-module _ (cap : ℕ) (room : 65535 ≤ cap) (s : Store) (k : ℕ) (k16 : k < 16)
+module _ (cap : ℕ) (room : messageSize ≤ cap) (s : Store) (k : ℕ) (k16 : k < 16)
     (c : Cut) (w : Within c) (marks : List Bool) (ml : length marks ≡ length (c .pieces)) (began : ℕ) (m : Message) (h : Holds c marks began m)
     (i : ℕ) (ic : i < length (c .pieces)) where
   pub answer-repeat : getD marks i false ≡ true → answer cap s (pieceOf c i) k m ≡ record { number = 54; out = none; store = s }

@@ -11,6 +11,7 @@ use lib.Seq.{getD-set-same, getD-set-other}
 use lib.Dec.{eqb}
 use native.Mathlib.Decide.{ℕ-discrete}
 use borrow.Author.Tests.{eq-eqb, ne-eqb, eqb-true, eqb-false}
+use Rattle.reassembly.specs.Sizes.{messageSize}
 use Rattle.reassembly.specs.Store.{Message, Rebuilt, idOf, numberOf, finalOf, pieceBytes, isHeld, total, joined, messageOr, plus, badLength, badNumber, repeats, clashes, tooMuch, complete, rebuiltOf, tooShort}
 use Rattle.reassembly.proofs.Table.{held-of-length, total-le, length-joined}
 use Rattle.reassembly.proofs.Stores as Stores
@@ -105,7 +106,7 @@ module _ (c : Cut) (w : Within c) (marks : List Bool) (ml : length marks ≡ len
       l : m .last ≡ top c
       l = h .last ∙ rw (all-at marks (top c) a (omega (arith, two))) refl
 
-  pub long-enough : (cap : ℕ) → 65535 ≤ cap → allMarks marks ≡ true → tooShort cap m ≡ false
+  pub long-enough : (cap : ℕ) → messageSize ≤ cap → allMarks marks ≡ true → tooShort cap m ≡ false
   unfolding cutFrom
   long-enough cap k a =
       let e : length (rebuiltOf m .bytes) ≡ total (c .pieces) = ap (λ (x : Rebuilt). length (x .bytes)) (whole-holds a) ∙ length-joined (c .pieces) in

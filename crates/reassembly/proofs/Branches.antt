@@ -10,6 +10,7 @@ use borrow.Author.Tests.{lt-ltb, le-ltb, eq-eqb, ne-eqb, le-leb, lt-leb, ltb-tru
 use native.Mathlib.Numerals.{add-one}
 use Rattle.wire.specs.Parts.{splice, same}
 use Rattle.wire.proofs.Tests.{or-neither}
+use Rattle.reassembly.specs.Sizes.{messageSize, slotSize, roomSize, recordSize}
 use Rattle.reassembly.specs.declared.Head.{Head}
 use Rattle.reassembly.specs.declared.Entry.{Entry}
 use Rattle.reassembly.specs.declared.Label.{Label}
@@ -56,22 +57,22 @@ module _ (rec room out : List ℕ) (i : ℕ) (l : Label) (g : Head) (v : List �
       rw (u, t) (cc)
 
 module _ (rec room out : List ℕ) (i : ℕ) (h : Head) (l : Label) (v : List ℕ) where
-  pub put-53 : (r : Reply) → 65535 < h .total + length v → r ≡ bare 53 → after r (lent rec room out) ≡ putIn (lent rec room out) i h l v
+  pub put-53 : (r : Reply) → messageSize < h .total + length v → r ≡ bare 53 → after r (lent rec room out) ≡ putIn (lent rec room out) i h l v
   unfolding putIn
-  put-53 r t q = rw (lt-ltb 65535 (h .total + length v) t, q) refl
+  put-53 r t q = rw (lt-ltb messageSize (h .total + length v) t, q) refl
 
-  pub put-whole : (x : After) (g : Head) → h .total + length v ≤ 65535 → g ≡ grownBy h l (length v) → isComplete g ≡ true → x ≡ finished (lent rec room out) i l g v → x ≡ putIn (lent rec room out) i h l v
+  pub put-whole : (x : After) (g : Head) → h .total + length v ≤ messageSize → g ≡ grownBy h l (length v) → isComplete g ≡ true → x ≡ finished (lent rec room out) i l g v → x ≡ putIn (lent rec room out) i h l v
   unfolding putIn
   put-whole x g t e w q =
       let w′ : isComplete (grownBy h l (length v)) ≡ true = ap isComplete (sym e) ∙ w in
-      rw (le-ltb 65535 (h .total + length v) t, w′) (q ∙ ap (λ (z : Head). finished (lent rec room out) i l z v) e)
+      rw (le-ltb messageSize (h .total + length v) t, w′) (q ∙ ap (λ (z : Head). finished (lent rec room out) i l z v) e)
 
-  pub put-kept : (r : Reply) (rec′ room′ : List ℕ) (g : Head) (k : ℕ) → h .total + length v ≤ 65535 → g ≡ grownBy h l (length v) → isComplete g ≡ false → k ≡ l .number
+  pub put-kept : (r : Reply) (rec′ room′ : List ℕ) (g : Head) (k : ℕ) → h .total + length v ≤ messageSize → g ≡ grownBy h l (length v) → isComplete g ≡ false → k ≡ l .number
       → rec′ ≡ keptRec rec i k (h .total) (length v) g → room′ ≡ keptRoom room i (h .total) v → r ≡ bare 0 → after r (lent rec′ room′ out) ≡ putIn (lent rec room out) i h l v
   unfolding putIn
   put-kept r rec′ room′ g k t e w n a b q =
       let w′ : isComplete (grownBy h l (length v)) ≡ false = ap isComplete (sym e) ∙ w in
-      rw (le-ltb 65535 (h .total + length v) t, w′) (cc)
+      rw (le-ltb messageSize (h .total + length v) t, w′) (cc)
 
 module _ (rec room out : List ℕ) (i : ℕ) (l : Label) (v : List ℕ) (h : Head) (k : ℕ) (e : Entry) (eh : h ≡ headAt rec i) (ek : k ≡ l .number) (ee : e ≡ entryAt rec i k) where
   len-is : e .len ≡ entryAt rec i (l .number) .len
@@ -110,12 +111,12 @@ module _ (rec room : List ℕ) (i : ℕ) (h : Head) (l : Label) (v : List ℕ) (
       rw u (cc)
 
 -- a piece put after what its slot holds
-pub kept-is : (rec rec₁ rec′ room room′ : List ℕ) (i k total : ℕ) (g : Head) (v : List ℕ) (at : ℕ) → at ≡ total → room′ ≡ splice room (i * 65535 + at) v
+pub kept-is : (rec rec₁ rec′ room room′ : List ℕ) (i k total : ℕ) (g : Head) (v : List ℕ) (at : ℕ) → at ≡ total → room′ ≡ splice room (i * slotSize + at) v
     → rec₁ ≡ withEntry rec i k (record { place = total; len = length v }) → rec′ ≡ withHead rec₁ i g
     → (rec′ ≡ keptRec rec i k total (length v) g) × (room′ ≡ keptRoom room i total v)
 unfolding keptRec keptRoom
 kept-is rec rec₁ rec′ room room′ i k total g v at ea em e₁ e₂ =
-    (e₂ ∙ ap (λ (z : List ℕ). withHead z i g) e₁, em ∙ ap (λ (z : ℕ). splice room (i * 65535 + z) v) ea)
+    (e₂ ∙ ap (λ (z : List ℕ). withHead z i g) e₁, em ∙ ap (λ (z : ℕ). splice room (i * slotSize + z) v) ea)
 
 pub opened-kept : (rec room rec₁ rec′ room′ : List ℕ) (i k second : ℕ) (l : Label) (g₀ g : Head) (v : List ℕ) → rec₁ ≡ cleared rec i → g₀ ≡ newHead l second → g ≡ grownBy g₀ l (length v)
     → k ≡ l .number → rec′ ≡ keptRec rec₁ i k 0 (length v) g → room′ ≡ keptRoom room i 0 v
@@ -181,11 +182,11 @@ module _ (rec room out : List ℕ) (l : Label) (second : ℕ) (v : List ℕ) whe
   follow-taken x t s n q = rw (t, s, n) q
 
 -- what the tests that were passed say of the lengths and the number
-pub long-lent : (rec room : List ℕ) → lentShort rec room ≡ false → (8576 ≤ length rec) × (1048560 ≤ length room)
+pub long-lent : (rec room : List ℕ) → lentShort rec room ≡ false → (recordSize ≤ length rec) × (roomSize ≤ length room)
 unfolding lentShort
 long-lent rec room e =
-    let p = or-neither (ltb (length rec) 8576) (ltb (length room) 1048560) e in
-    (ltb-false (length rec) 8576 (p .0), ltb-false (length room) 1048560 (p .1))
+    let p = or-neither (ltb (length rec) recordSize) (ltb (length room) roomSize) e in
+    (ltb-false (length rec) recordSize (p .0), ltb-false (length room) roomSize (p .1))
 
 pub good-size : (n : ℕ) → badSize n ≡ false → (0 < n) × (n ≤ 1500)
 unfolding badSize

@@ -8,6 +8,7 @@ use Rattle.wire.specs.Parts.{splice}
 use Rattle.wire.specs.Numbers.{littleBytes}
 use Rattle.wire.proofs.Parts.{puts}
 use Rattle.wire.proofs.Numbers.{length-little, little-two, little-four, little-eight}
+use Rattle.reassembly.specs.Sizes.{headSize}
 use Rattle.reassembly.specs.declared.Head.{Head}
 use Rattle.reassembly.specs.declared.Entry.{Entry}
 use Rattle.reassembly.specs.Record.{headBytes, entryBytes}
@@ -53,7 +54,7 @@ unfolding entryBytes
 entry-put rec o e h p q =
     puts rec o 2 2 (o + 2) (littleBytes 2 (e .place)) (littleBytes 2 (e .len)) (length-little 2 (e .place)) (length-little 2 (e .len)) refl (omega arith) p q .0
 
-pub head-put : (rec : List ℕ) (o : ℕ) (h : Head) {a b c d n : List ℕ} → o + 24 ≤ length rec
+pub head-put : (rec : List ℕ) (o : ℕ) (h : Head) {a b c d n : List ℕ} → o + headSize ≤ length rec
     → a ≡ splice rec o (littleBytes 4 (h .id)) → b ≡ splice a (o + 4) (littleBytes 8 (h .opened)) → c ≡ splice b (o + 12) (littleBytes 4 (h .expires))
     → d ≡ splice c (o + 16) (littleBytes 2 (h .total)) → n ≡ splice d (o + 18) (h .count ∷ h .last ∷ h .top ∷ h .kind ∷ 0 ∷ 0 ∷ [])
     → n ≡ splice rec o (headBytes h)

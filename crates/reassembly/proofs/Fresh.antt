@@ -10,6 +10,7 @@ use lib.ListN.{length, getD, replicate}
 use borrow.Author.Tests.{ne-eqb, le-ltb, ltb-true}
 use Rattle.wire.specs.Parts.{part}
 use Rattle.wire.proofs.Parts.{part-none}
+use Rattle.reassembly.specs.Sizes.{recordSize}
 use Rattle.reassembly.specs.declared.Entry.{Entry}
 use Rattle.reassembly.specs.declared.Label.{Label}
 use Rattle.reassembly.specs.Store.{Piece, idOf, Message, isHeld, total, messageOr}
@@ -37,7 +38,7 @@ none-there zero k = refl
 none-there (suc n) zero = refl
 none-there (suc n) (suc k) = none-there n k
 
-module _ (rec room : List ℕ) (i : ℕ) (rlong : 8576 ≤ length rec) (hi : i < 16) where
+module _ (rec room : List ℕ) (i : ℕ) (rlong : recordSize ≤ length rec) (hi : i < 16) where
   pub table-none : tableAt (cleared rec i) room i ≡ replicate 128 []
   unfolding tableAt
   table-none = series-same (pieceAt (cleared rec i) room i) (λ k. []) 128 [] none-at ∙ series-const {A = List ℕ} [] 0 128

@@ -10,6 +10,7 @@ use native.Mathlib.Decide.{ℕ-discrete}
 use lib.Dec.{eqb}
 use lib.ListN.{length, set}
 use Rattle.wire.specs.Parts.{part}
+use Rattle.reassembly.specs.Sizes.{messageSize, roomSize, recordSize}
 use Rattle.reassembly.specs.declared.Head.{Head}
 use Rattle.reassembly.specs.declared.Entry.{Entry}
 use Rattle.reassembly.specs.Store.{Message}
@@ -73,7 +74,7 @@ pub free-same : (rec rec′ : List ℕ) (j : ℕ) → headAt rec′ j ≡ headAt
 unfolding isFree
 free-same rec rec′ j h = ap (λ (x : Head). eqb (x .count) 0) (sym h)
 
-module _ (rec room rec′ room′ : List ℕ) (i : ℕ) (m : Made rec room) (lr : 8576 ≤ length rec′) (lm : 1048560 ≤ length room′) (hi : i < 16)
+module _ (rec room rec′ room′ : List ℕ) (i : ℕ) (m : Made rec room) (lr : recordSize ≤ length rec′) (lm : roomSize ≤ length room′) (hi : i < 16)
     (o : Others rec room rec′ room′ i) where
   -- the store with another message, or none, in slot i
   pub stands-with : (x : Option Message) → slotAt rec′ room′ i ≡ x → stands rec′ room′ ≡ set (stands rec room) i x
@@ -94,22 +95,22 @@ module _ (rec room rec′ room′ : List ℕ) (i : ℕ) (m : Made rec room) (lr 
           (fine-same rec room rec′ room′ j (λ k hk. o .entries j k hj q hk) (o .rooms j hj q) (headAt rec j) (m .slots j hj e′))
 
 -- a head put
-pub others-head : (rec room : List ℕ) (i : ℕ) (h : Head) → 8576 ≤ length rec → i < 16 → Others rec room (withHead rec i h) room i
+pub others-head : (rec room : List ℕ) (i : ℕ) (h : Head) → recordSize ≤ length rec → i < 16 → Others rec room (withHead rec i h) room i
 others-head rec room i h l hi =
     record { heads = λ j hj q. head-other rec l i hi h j q; entries = λ j k hj q hk. head-entry rec l i hi h j k; rooms = λ j hj q. refl }
 
 -- the entries cleared
-pub others-cleared : (rec room : List ℕ) (i : ℕ) → 8576 ≤ length rec → i < 16 → Others rec room (cleared rec i) room i
+pub others-cleared : (rec room : List ℕ) (i : ℕ) → recordSize ≤ length rec → i < 16 → Others rec room (cleared rec i) room i
 others-cleared rec room i l hi =
     record { heads = λ j hj q. cleared-head rec l i hi j hj; entries = λ j k hj q hk. cleared-other rec l i hi j k q hk; rooms = λ j hj q. refl }
 
 -- a piece kept
-pub others-kept : (rec room : List ℕ) (i k t : ℕ) (v : List ℕ) (g : Head) → 8576 ≤ length rec → 1048560 ≤ length room → i < 16 → k < 128 → t + length v ≤ 65535
+pub others-kept : (rec room : List ℕ) (i k t : ℕ) (v : List ℕ) (g : Head) → recordSize ≤ length rec → roomSize ≤ length room → i < 16 → k < 128 → t + length v ≤ messageSize
     → Others rec room (keptRec rec i k t (length v) g) (keptRoom room i t v) i
 unfolding keptRec
 others-kept rec room i k t v g l lm hi hk fits =
     let e : Entry = record { place = t; len = length v } in
-    let l₁ : 8576 ≤ length (withEntry rec i k (record { place = t; len = length v })) = omega (arith, length-entry rec l i hi k hk (record { place = t; len = length v })) in
+    let l₁ : recordSize ≤ length (withEntry rec i k (record { place = t; len = length v })) = omega (arith, length-entry rec l i hi k hk (record { place = t; len = length v })) in
     record {
       heads = λ j hj q. head-other (withEntry rec i k (record { place = t; len = length v })) l₁ i hi g j q ∙ entry-head rec l i hi k hk (record { place = t; len = length v }) j hj;
       entries = λ j m hj q hm. head-entry (withEntry rec i k (record { place = t; len = length v })) l₁ i hi g j m ∙ entry-other rec l i hi k hk (record { place = t; len = length v }) j m q hm;
@@ -121,12 +122,12 @@ pub no-head-fits : HeadFits noHead
 unfolding noHead
 no-head-fits = record { id = omega arith; opened = omega arith; expires = omega arith; total = omega arith }
 
-pub freed-slot : (rec room : List ℕ) (i : ℕ) → 8576 ≤ length rec → i < 16 → slotAt (withHead rec i noHead) room i ≡ none
+pub freed-slot : (rec room : List ℕ) (i : ℕ) → recordSize ≤ length rec → i < 16 → slotAt (withHead rec i noHead) room i ≡ none
 unfolding slotAt isFree
 freed-slot rec room i l hi =
     ap (λ (h : Head). cond (eqb (h .count) 0) none (some (messageWith (headAt (withHead rec i noHead) i) (withHead rec i noHead) room i))) (head-same rec l i hi noHead no-head-fits)
     ∙ (unfold noHead in refl)
 
-pub freed-free : (rec : List ℕ) (i : ℕ) → 8576 ≤ length rec → i < 16 → isFree (withHead rec i noHead) i ≡ true
+pub freed-free : (rec : List ℕ) (i : ℕ) → recordSize ≤ length rec → i < 16 → isFree (withHead rec i noHead) i ≡ true
 unfolding isFree
 freed-free rec i l hi = ap (λ (h : Head). eqb (h .count) 0) (head-same rec l i hi noHead no-head-fits) ∙ (unfold noHead in refl)

@@ -9,6 +9,7 @@ use native.Mathlib.Numerals.{add-one}
 use lib.Dec.{eqb, ltb}
 use lib.ListN.{length, getD, set, take}
 use borrow.Author.Tests.{ne-eqb, lt-ltb, le-ltb, ltb-false, lt-leb}
+use Rattle.reassembly.specs.Sizes.{messageSize, roomSize, recordSize}
 use Rattle.reassembly.specs.declared.Head.{Head}
 use Rattle.reassembly.specs.declared.Label.{Label}
 use Rattle.reassembly.specs.Store.{Piece, pieceBytes, Message, Store, Answer, isHeld, joined, plus, badLength, badNumber, repeats, clashes, tooMuch, complete, rebuiltOf, tooShort, refused, answer}
@@ -46,7 +47,7 @@ pub size-of : (p : Piece) → badLength p ≡ false → (1 ≤ length (pieceByte
 size-of p e = let q = good-size (length (pieceBytes p)) (sym (good-length p) ∙ e) in (omega (arith, q .0), q .1)
 
 -- A piece that fits a slot whose head is h.
-module _ (h : Head) (rec room : List ℕ) (i : ℕ) (f : Fine h rec room i) (rlong : 8576 ≤ length rec) (long : 1048560 ≤ length room) (hi : i < 16)
+module _ (h : Head) (rec room : List ℕ) (i : ℕ) (f : Fine h rec room i) (rlong : recordSize ≤ length rec) (long : roomSize ≤ length room) (hi : i < 16)
     (p : Piece) (gl : badLength p ≡ false) (gn : badNumber p ≡ false) (lx : labelOf p .expires < 4294967296)
     (free : isHeld (getD (tableAt rec room i) (labelOf p .number) []) ≡ false) (ok : misfits h (labelOf p) ≡ false)
     (out : List ℕ) (s : Store) where
@@ -68,7 +69,7 @@ module _ (h : Head) (rec room : List ℕ) (i : ℕ) (f : Fine h rec room i) (rlo
   abbrev room′ : List ℕ
   room′ = keptRoom room i (h .total) v
 
-  pub answer-53 : 65535 < h .total + length v → answer (length out) s p i m ≡ refused 53 s
+  pub answer-53 : messageSize < h .total + length v → answer (length out) s p i m ≡ refused 53 s
   unfolding answer
   answer-53 t =
       rw (
@@ -77,10 +78,10 @@ module _ (h : Head) (rec room : List ℕ) (i : ℕ) (f : Fine h rec room i) (rlo
         repeats-free h rec room i f long hi p gn free,
         clashes-free h rec room i f long hi p gn free ∙ ok,
         lt-leb 16 i hi,
-        too-much h rec room i f long hi p gn ∙ lt-ltb 65535 (h .total + length v) t,
+        too-much h rec room i f long hi p gn ∙ lt-ltb messageSize (h .total + length v) t,
       ) refl
 
-  module _ (fits : h .total + length v ≤ 65535) where
+  module _ (fits : h .total + length v ≤ messageSize) where
     table-is : tableAt rec′ room′ i ≡ set (tableAt rec room i) (l .number) v
     table-is = table-kept h rec room i f rlong long hi l v (number-small p gn) (size-of p gl .0) (size-of p gl .1) fits lx free ok
 
@@ -90,10 +91,10 @@ module _ (h : Head) (rec room : List ℕ) (i : ℕ) (f : Fine h rec room i) (rlo
     head′ : headAt rec′ i ≡ g
     head′ = kept-head h rec room i f rlong long hi l v (number-small p gn) (size-of p gl .0) (size-of p gl .1) fits lx free ok
 
-    long-rec′ : 8576 ≤ length rec′
+    long-rec′ : recordSize ≤ length rec′
     long-rec′ = omega (arith, kept-long h rec room i f rlong long hi l v (number-small p gn) (size-of p gl .0) (size-of p gl .1) fits lx free ok)
 
-    long-room′ : 1048560 ≤ length room′
+    long-room′ : roomSize ≤ length room′
     long-room′ = omega (arith, length-kept room long i hi (h .total) v fits)
 
     with-piece : plus m p ≡ messageWith g rec′ room′ i
@@ -132,7 +133,7 @@ module _ (h : Head) (rec room : List ℕ) (i : ℕ) (f : Fine h rec room i) (rlo
     no-clash = clashes-free h rec room i f long hi p gn free ∙ ok
 
     few : tooMuch m p ≡ false
-    few = too-much h rec room i f long hi p gn ∙ le-ltb 65535 (h .total + length v) fits
+    few = too-much h rec room i f long hi p gn ∙ le-ltb messageSize (h .total + length v) fits
 
     pub answer-kept : isComplete g ≡ false → answer (length out) s p i m ≡ record { number = 0; out = none; store = set s i (some (plus m p)) }
     answer-kept w = Stores.answer-kept (length out) s p i m gl gn no-repeat no-clash hi few (whole-is ∙ w)

@@ -8,6 +8,7 @@ use native.Mathlib.Omega.{arith}
 use lib.Dec.{eqb, ltb, leb}
 use lib.ListN.{length}
 use borrow.Author.Tests.{ltb-true, ltb-false, leb-false}
+use Rattle.reassembly.specs.Sizes.{messageSize}
 use Rattle.reassembly.specs.declared.Head.{Head}
 use Rattle.reassembly.specs.declared.Label.{Label}
 use Rattle.reassembly.specs.declared.Reply.{Reply}
@@ -40,11 +41,11 @@ module _ (x : Lent) where
     careful-put : (i : ℕ) → i < 16 → (h : Head) → Careful x (putIn x i h l v)
     unfolding putIn keptRoom bare
     careful-put i hi h =
-        both (ltb 65535 (h .total + length v)) _ _ (λ e. refused (bare 53))
+        both (ltb messageSize (h .total + length v)) _ _ (λ e. refused (bare 53))
         (λ e. both (isComplete (grownBy h l (length v))) _ _ (λ w. careful-finished i (grownBy h l (length v)))
         (λ w. record {
           refusal = inl refl;
-          own-room = inr (record { slot = i; place = h .total; bytes = v; one-of-16 = hi; inside = ltb-false 65535 (h .total + length v) e; put = refl });
+          own-room = inr (record { slot = i; place = h .total; bytes = v; one-of-16 = hi; inside = ltb-false messageSize (h .total + length v) e; put = refl });
         }))
 
     careful-added : (i : ℕ) → i < 16 → Careful x (added x i l v)

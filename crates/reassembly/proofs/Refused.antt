@@ -8,6 +8,7 @@ use lib.Dec.{eqb, ltb, leb}
 use lib.ListN.{length, replicate}
 use types.Run.{OneOf}
 use Rattle.wire.specs.Parts.{splice, same}
+use Rattle.reassembly.specs.Sizes.{messageSize, recordSize}
 use Rattle.reassembly.specs.declared.Head.{Head}
 use Rattle.reassembly.specs.declared.Label.{Label}
 use Rattle.reassembly.specs.Record.{headAt, entryAt, outside, pieceAt}
@@ -50,7 +51,7 @@ module _ (x : Lent) (l : Label) (v : List ℕ) where
   says-put : (i : ℕ) (h : Head) → Says (putIn x i h l v)
   unfolding putIn bare
   says-put i h =
-      both (ltb 65535 (h .total + length v)) _ _ (inr (inr (inr (inr (inl refl)))))
+      both (ltb messageSize (h .total + length v)) _ _ (inr (inr (inr (inr (inl refl)))))
       (both (isComplete (grownBy h l (length v))) _ _ (says-finished i (grownBy h l (length v))) (inl refl))
 
   says-added : (i : ℕ) → Says (added x i l v)
@@ -95,15 +96,15 @@ follow-on-numbers x l second v =
 -- a record that is not made new stays
 pub renew-leaves : (rec : List ℕ) → (renewal rec ≡ 0 → ⊥) → renewed rec ≡ rec
 unfolding renewal renewed
-renew-leaves rec = go (ltb (length rec) 8576)
+renew-leaves rec = go (ltb (length rec) recordSize)
   where
-    go : (b : Bool) → (_≡_ {A = ℕ} (cond b 59 0) 0 → ⊥) → cond b rec (splice rec 0 (replicate 8576 0)) ≡ rec
+    go : (b : Bool) → (_≡_ {A = ℕ} (cond b 59 0) 0 → ⊥) → cond b rec (splice rec 0 (replicate recordSize 0)) ≡ rec
     go true ne = refl
     go false ne = absurd (ne refl)
 
 pub renew-numbers : (rec : List ℕ) → (renewal rec ≡ 0 → ⊥) → renewal rec ≡ 59
 unfolding renewal
-renew-numbers rec = go (ltb (length rec) 8576)
+renew-numbers rec = go (ltb (length rec) recordSize)
   where
     go : (b : Bool) → (_≡_ {A = ℕ} (cond b 59 0) 0 → ⊥) → _≡_ {A = ℕ} (cond b 59 0) 59
     go true ne = refl

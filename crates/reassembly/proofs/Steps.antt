@@ -9,6 +9,7 @@ use lib.Dec.{eqb, ltb, leb}
 use lib.ListN.{length, getD, set}
 use borrow.Author.Tests.{lt-ltb, le-ltb, ltb-true, ltb-false, le-leb, leb-true, leb-false}
 use Rattle.wire.specs.Parts.{same}
+use Rattle.reassembly.specs.Sizes.{messageSize, roomSize, recordSize}
 use Rattle.reassembly.specs.declared.Head.{Head}
 use Rattle.reassembly.specs.declared.Label.{Label}
 use Rattle.reassembly.specs.Store.{Piece, first, follow, idOf, pieceBytes, Message, Store, isHeld, findId, findFree, slotOf, messageOr, plus, badLength, badNumber, repeats, clashes, refused, answer, step}
@@ -60,21 +61,21 @@ module _ (rec room out : List ℕ) (made : Made rec room) (p : Piece) (second : 
 
     put-agrees : isHeld (getD (tableAt rec room i) (l .number) []) ≡ false → misfits h l ≡ false → Agrees out (putIn (lent rec room out) i h l v) (answer (length out) s p i m)
     unfolding putIn
-    put-agrees free ok = go (ltb 65535 (h .total + length v)) refl (isComplete (grownBy h l (length v))) refl
+    put-agrees free ok = go (ltb messageSize (h .total + length v)) refl (isComplete (grownBy h l (length v))) refl
       where
-        go : (b : Bool) → ltb 65535 (h .total + length v) ≡ b → (c : Bool) → isComplete (grownBy h l (length v)) ≡ c → Agrees out (putIn (lent rec room out) i h l v) (answer (length out) s p i m)
+        go : (b : Bool) → ltb messageSize (h .total + length v) ≡ b → (c : Bool) → isComplete (grownBy h l (length v)) ≡ c → Agrees out (putIn (lent rec room out) i h l v) (answer (length out) s p i m)
         go true e c w =
             let a : answer (length out) s p i m ≡ refused 53 s
-            = answer-53 h rec room i f (made .record-long) (made .room-long) hi p gl gn (fit .expires) free ok out s (ltb-true 65535 (h .total + length v) e) in
+            = answer-53 h rec room i f (made .record-long) (made .room-long) hi p gl gn (fit .expires) free ok out s (ltb-true messageSize (h .total + length v) e) in
             rw (e, a) (refusal rec room out 53 made)
         go false e true w =
             rw (e, w)
-            (finished-agrees h rec room i f (made .record-long) (made .room-long) hi p gl gn (fit .expires) free ok out s (ltb-false 65535 (h .total + length v) e) made w refl)
+            (finished-agrees h rec room i f (made .record-long) (made .room-long) hi p gl gn (fit .expires) free ok out s (ltb-false messageSize (h .total + length v) e) made w refl)
         go false e false w =
             let a : answer (length out) s p i m ≡ record { number = 0; out = none; store = set s i (some (plus m p)) }
-            = answer-kept h rec room i f (made .record-long) (made .room-long) hi p gl gn (fit .expires) free ok out s (ltb-false 65535 (h .total + length v) e) w in
+            = answer-kept h rec room i f (made .record-long) (made .room-long) hi p gl gn (fit .expires) free ok out s (ltb-false messageSize (h .total + length v) e) w in
             rw (e, w, a)
-            (kept-agrees h rec room i f (made .record-long) (made .room-long) hi p gl gn (fit .expires) free ok out s (ltb-false 65535 (h .total + length v) e) rec made (others-none rec room i))
+            (kept-agrees h rec room i f (made .record-long) (made .room-long) hi p gl gn (fit .expires) free ok out s (ltb-false messageSize (h .total + length v) e) rec made (others-none rec room i))
 
     added-agrees : Agrees out (added (lent rec room out) i l v) (answer (length out) s p i m)
     unfolding added compared again answer
@@ -113,7 +114,7 @@ module _ (rec room out : List ℕ) (made : Made rec room) (p : Piece) (second : 
     opened-agrees : Agrees out (openedIn (lent rec room out) i l second v) (answer (length out) s p i (messageOr none (idOf p) second))
     opened-agrees = rw (fresh-is rec room i (made .record-long) hi p second, a) in-slot
       where
-        long₁ : 8576 ≤ length (cleared rec i)
+        long₁ : recordSize ≤ length (cleared rec i)
         long₁ = omega (arith, length-cleared rec (made .record-long) i hi, made .record-long)
 
         f₀ : Fine h₀ (cleared rec i) room i
@@ -122,7 +123,7 @@ module _ (rec room out : List ℕ) (made : Made rec room) (p : Piece) (second : 
         free₀ : isHeld (getD (tableAt (cleared rec i) room i) (l .number) []) ≡ false
         free₀ = none-held rec room i (made .record-long) hi (l .number)
 
-        fits₀ : h₀ .total + length v ≤ 65535
+        fits₀ : h₀ .total + length v ≤ messageSize
         fits₀ = unfold newHead in omega (arith, size-of p gl .1)
 
         a : answer (length out) s p i (messageWith h₀ (cleared rec i) room i) ≡ record { number = 0; out = none; store = set s i (some (plus (messageWith h₀ (cleared rec i) room i) p)) }
@@ -229,7 +230,7 @@ module _ (rec room out : List ℕ) (made : Made rec room) (p : Piece) (second : 
 -- lengths of a record and a room that calls made
 long-enough : (rec room : List ℕ) → Made rec room → lentShort rec room ≡ false
 unfolding lentShort
-long-enough rec room m = rw (le-ltb (length rec) 8576 (m .record-long), le-ltb (length room) 1048560 (m .room-long)) refl
+long-enough rec room m = rw (le-ltb (length rec) recordSize (m .record-long), le-ltb (length room) roomSize (m .room-long)) refl
 
 step-50 : (cap : ℕ) (s : Store) (p : Piece) (second : ℕ) → badLength p ≡ true → step cap s p second ≡ refused 50 s
 unfolding step answer

@@ -11,6 +11,7 @@ use lib.ListN.{length, getD, take, drop, set, replicate, length-map, length-repl
 use lib.Seq.{getD-drop, getD-take, ext-getD, length-take-le}
 use borrow.Author.Tests.{eq-eqb, ne-eqb, lt-ltb, le-ltb, le-leb, lt-leb, eqb-true, eqb-false, ltb-true, ltb-false}
 use Rattle.wire.proofs.Same.{eq-same}
+use Rattle.reassembly.specs.Sizes.{messageSize}
 use Rattle.reassembly.specs.Store.{Piece, first, follow, idOf, numberOf, finalOf, pieceBytes, Message, Store, empty, allHeld, someHeld, total, joined, findId, findFree, slotOf, messageOr, plus, badLength, badNumber, repeats, clashes, tooMuch, complete, rebuiltOf, tooShort, refused, answer, step, sweptOne, sweep}
 use Rattle.reassembly.proofs.Table.{held-of-length, total-set, total-set-le, total-take, length-joined, none-held}
 
@@ -196,13 +197,13 @@ no-clash m p free below lasts = rw (free, above (ltb 0 (m .last)) refl, final (f
     final false e = rw e refl
 
 -- 53 is not for a piece with which the message has at most 65,535 bytes
-pub not-too-much : (m : Message) (p : Piece) → numberOf p < length (m .table) → getD (m .table) (numberOf p) [] ≡ [] → total (plus m p .table) ≤ 65535 → tooMuch m p ≡ false
+pub not-too-much : (m : Message) (p : Piece) → numberOf p < length (m .table) → getD (m .table) (numberOf p) [] ≡ [] → total (plus m p .table) ≤ messageSize → tooMuch m p ≡ false
 unfolding tooMuch
 not-too-much m p h free few =
     let a : total (plus m p .table) ≡ total (set (m .table) (numberOf p) (pieceBytes p)) = ap total (plus-table m p) in
     let b : total (set (m .table) (numberOf p) (pieceBytes p)) + length (getD (m .table) (numberOf p) []) ≡ total (m .table) + length (pieceBytes p) = total-set (m .table) (numberOf p) (pieceBytes p) h in
     let z : length (getD (m .table) (numberOf p) []) ≡ 0 = ap length free in
-    le-ltb 65535 (total (m .table) + length (pieceBytes p)) (omega arith)
+    le-ltb messageSize (total (m .table) + length (pieceBytes p)) (omega arith)
 
 -- ---- a complete message
 
@@ -264,7 +265,7 @@ module _ (cap : ℕ) (s : Store) (p : Piece) (k : ℕ) (m : Message) (gl : badLe
     answer-finished e f = answer-whole e ∙ rw f refl
 
 -- What comes out has at most 65,535 bytes, by 53;
-whole-fits : (m : Message) (p : Piece) → tooMuch m p ≡ false → length (rebuiltOf (plus m p) .bytes) ≤ 65535
+whole-fits : (m : Message) (p : Piece) → tooMuch m p ≡ false → length (rebuiltOf (plus m p) .bytes) ≤ messageSize
 unfolding rebuiltOf tooMuch
 whole-fits m p e =
     let t : List (List ℕ) = plus m p .table in
@@ -273,19 +274,19 @@ whole-fits m p e =
     let b : total (set (m .table) (numberOf p) (pieceBytes p)) ≤ total (m .table) + length (pieceBytes p) = total-set-le (m .table) (numberOf p) (pieceBytes p) in
     let c : total (take n t) ≤ total t = total-take n t in
     let d : length (joined (take n t)) ≡ total (take n t) = length-joined (take n t) in
-    let f : total (m .table) + length (pieceBytes p) ≤ 65535 = ltb-false 65535 (total (m .table) + length (pieceBytes p)) e in
+    let f : total (m .table) + length (pieceBytes p) ≤ messageSize = ltb-false messageSize (total (m .table) + length (pieceBytes p)) e in
     omega arith
 
 -- so a step is the same with every assembly buffer of 65,535 bytes or more.
-pub step-enough : (cap : ℕ) → 65535 ≤ cap → (s : Store) (p : Piece) (second : ℕ) → step cap s p second ≡ step 65535 s p second
+pub step-enough : (cap : ℕ) → messageSize ≤ cap → (s : Store) (p : Piece) (second : ℕ) → step cap s p second ≡ step messageSize s p second
 unfolding step answer
 step-enough cap h s p second = go (messageOr (getD s (slotOf (idOf p) s) none) (idOf p) second) _ refl
   where
-    go : (m : Message) (b : Bool) → tooMuch m p ≡ b → answer cap s p (slotOf (idOf p) s) m ≡ answer 65535 s p (slotOf (idOf p) s) m
+    go : (m : Message) (b : Bool) → tooMuch m p ≡ b → answer cap s p (slotOf (idOf p) s) m ≡ answer messageSize s p (slotOf (idOf p) s) m
     go m true e = rw e refl
     go m false e =
-        let w : length (rebuiltOf (plus m p) .bytes) ≤ 65535 = whole-fits m p e in
-        rw (not-too-short cap (plus m p) (omega arith), not-too-short 65535 (plus m p) w) refl
+        let w : length (rebuiltOf (plus m p) .bytes) ≤ messageSize = whole-fits m p e in
+        rw (not-too-short cap (plus m p) (omega arith), not-too-short messageSize (plus m p) w) refl
 
 -- ---- a sweep
 

@@ -13,6 +13,7 @@ use borrow.Author.Tests.{lt-ltb, le-ltb, ltb-true, ltb-false}
 use Rattle.wire.specs.Parts.{part, splice}
 use Rattle.wire.proofs.Parts.{part-within, length-splice, splice-all}
 use Rattle.wire.proofs.Slices.{part-alike}
+use Rattle.reassembly.specs.Sizes.{roomSize, headSize, recordSize}
 use Rattle.reassembly.specs.Store.{Message, Store, empty, sweptOne, sweep}
 use Rattle.reassembly.specs.Record.{headOf, headAt, withHead}
 use Rattle.reassembly.specs.Slots.{isFree}
@@ -46,11 +47,11 @@ young-slot second rec room i e = go (eqb (headAt rec i .count) 0) (leb (headAt r
 
 -- what one slot swept does, with any room
 record One (second : ℕ) (rec room rec′ : List ℕ) (i : ℕ) : Type 0 where
-  long : 8576 ≤ length rec′
+  long : recordSize ≤ length rec′
   here : slotAt rec′ room i ≡ sweptOne second (slotAt rec room i)
   there : (j : ℕ) → j < 16 → j ≢ i → slotAt rec′ room j ≡ slotAt rec room j
 
-one-swept : (second : ℕ) (rec room : List ℕ) (i : ℕ) → i < 16 → 8576 ≤ length rec → One second rec room (sweptAt second rec i) i
+one-swept : (second : ℕ) (rec room : List ℕ) (i : ℕ) → i < 16 → recordSize ≤ length rec → One second rec room (sweptAt second rec i) i
 unfolding sweptAt
 one-swept second rec room i hi long = go (isOld second (headAt rec i)) refl
   where
@@ -81,10 +82,10 @@ one-made second rec room i hi m = go (isOld second (headAt rec i))
 
 -- the first n slots swept
 record Upto (second : ℕ) (rec room rec′ : List ℕ) (n : ℕ) : Type 0 where
-  long : 8576 ≤ length rec′
+  long : recordSize ≤ length rec′
   slots : (j : ℕ) → j < 16 → slotAt rec′ room j ≡ cond (ltb j n) (sweptOne second (slotAt rec room j)) (slotAt rec room j)
 
-swept-upto : (second : ℕ) (rec room : List ℕ) → 8576 ≤ length rec → (n : ℕ) → n ≤ 16 → Upto second rec room (sweptTo second rec n) n
+swept-upto : (second : ℕ) (rec room : List ℕ) → recordSize ≤ length rec → (n : ℕ) → n ≤ 16 → Upto second rec room (sweptTo second rec n) n
 swept-upto second rec room long zero h = record { long = long; slots = λ j hj. rw (le-ltb j 0 (omega arith)) refl }
 swept-upto second rec room long (suc n) h = more (swept-upto second rec room long n (omega arith))
   where
@@ -115,28 +116,28 @@ map-series : (g : Option Message → Option Message) (f : ℕ → Option Message
 map-series g f i zero = refl
 map-series g f i (suc n) = ap {B = Store} (λ (z : Store). g (f i) ∷ z) (map-series g f (i + 1) n)
 
-pub sweep-stands : (second : ℕ) (rec room : List ℕ) → 8576 ≤ length rec → stands (swept second rec) room ≡ sweep second (stands rec room)
+pub sweep-stands : (second : ℕ) (rec room : List ℕ) → recordSize ≤ length rec → stands (swept second rec) room ≡ sweep second (stands rec room)
 unfolding swept stands sweep
 sweep-stands second rec room long =
     let u : Upto second rec room (sweptTo second rec 16) 16 = swept-upto second rec room long 16 (omega arith) in
-    ap (λ (b : Bool). series (slotAt (cond b rec (sweptTo second rec 16)) room) 0 16) (le-ltb (length rec) 8576 long)
+    ap (λ (b : Bool). series (slotAt (cond b rec (sweptTo second rec 16)) room) 0 16) (le-ltb (length rec) recordSize long)
     ∙ series-same (slotAt (sweptTo second rec 16) room) (λ k. sweptOne second (slotAt rec room k)) 16 none (λ k hk. u .slots k hk ∙ rw (lt-ltb k 16 hk) refl)
     ∙ sym (map-series (sweptOne second) (slotAt rec room) 0 16)
 
 pub sweep-made : (second : ℕ) (rec room : List ℕ) → Made rec room → Made (swept second rec) room
 unfolding swept
-sweep-made second rec room m = rw (le-ltb (length rec) 8576 (m .record-long)) (upto-made second rec room m 16 (omega arith))
+sweep-made second rec room m = rw (le-ltb (length rec) recordSize (m .record-long)) (upto-made second rec room m 16 (omega arith))
 
 -- a new store stands for the empty one
 none-series : (i n : ℕ) → _≡_ {A = Store} (series (λ k. none) i n) (replicate n none)
 none-series i zero = refl
 none-series i (suc n) = ap {B = Store} (λ (z : Store). none ∷ z) (none-series (i + 1) n)
 
-count-zero : headOf (replicate 24 0) .count ≡ 0
+count-zero : headOf (replicate headSize 0) .count ≡ 0
 unfolding headOf
 count-zero = refl
 
-module _ (rec room : List ℕ) (n : ℕ) (lr : n ≤ length rec) (enough : 8576 ≤ n) where
+module _ (rec room : List ℕ) (n : ℕ) (lr : n ≤ length rec) (enough : recordSize ≤ n) where
   abbrev blank : List ℕ
   blank = splice rec 0 (replicate n 0)
 
@@ -149,11 +150,11 @@ module _ (rec room : List ℕ) (n : ℕ) (lr : n ≤ length rec) (enough : 8576 
   blank-free : (i : ℕ) → i < 16 → isFree blank i ≡ true
   unfolding isFree headAt
   blank-free i hi =
-      let z : i * 24 ≡ 0 + i * 24 = omega arith in
+      let z : i * headSize ≡ 0 + i * headSize = omega arith in
       ap (λ (l : List ℕ). eqb (headOf l .count) 0)
-      (ap (λ (k : ℕ). part blank k 24) z
-      ∙ part-within rec 0 (replicate n 0) (omega (arith, wide)) (i * 24) 24 (omega (arith, wide))
-      ∙ part-alike 0 n (i * 24) 24 (omega arith))
+      (ap (λ (k : ℕ). part blank k headSize) z
+      ∙ part-within rec 0 (replicate n 0) (omega (arith, wide)) (i * headSize) headSize (omega (arith, wide))
+      ∙ part-alike 0 n (i * headSize) headSize (omega arith))
       ∙ ap (λ (k : ℕ). eqb k 0) count-zero
 
   blank-slot : (i : ℕ) → i < 16 → slotAt blank room i ≡ none
@@ -164,27 +165,27 @@ module _ (rec room : List ℕ) (n : ℕ) (lr : n ≤ length rec) (enough : 8576 
   unfolding stands
   blank-stands = series-same (slotAt blank room) (λ k. none) 16 none blank-slot ∙ none-series 0 16
 
-  blank-made : 1048560 ≤ length room → Made blank room
+  blank-made : roomSize ≤ length room → Made blank room
   blank-made lm = record { record-long = omega (arith, blank-long); room-long = lm; slots = λ i hi e. absurd (true≢false (sym (blank-free i hi) ∙ e)) }
 
-pub new-stands : (rec room : List ℕ) → 8576 ≤ length rec → stands (renewed rec) room ≡ empty
+pub new-stands : (rec room : List ℕ) → recordSize ≤ length rec → stands (renewed rec) room ≡ empty
 unfolding renewed
-new-stands rec room lr = rw (le-ltb (length rec) 8576 lr) (blank-stands rec room 8576 lr (omega arith))
+new-stands rec room lr = rw (le-ltb (length rec) recordSize lr) (blank-stands rec room recordSize lr (omega arith))
 
-pub new-made : (rec room : List ℕ) → 8576 ≤ length rec → 1048560 ≤ length room → Made (renewed rec) room
+pub new-made : (rec room : List ℕ) → recordSize ≤ length rec → roomSize ≤ length room → Made (renewed rec) room
 unfolding renewed
-new-made rec room lr lm = rw (le-ltb (length rec) 8576 lr) (blank-made rec room 8576 lr (omega arith) lm)
+new-made rec room lr lm = rw (le-ltb (length rec) recordSize lr) (blank-made rec room recordSize lr (omega arith) lm)
 
 -- a record of zeros is a new one
 zeros-blank : (n : ℕ) → splice {A = ℕ} (replicate n 0) 0 (replicate n 0) ≡ replicate n 0
 zeros-blank n = splice-all (replicate n 0) (replicate n 0) refl
 
-pub zeros-stand : (n : ℕ) (room : List ℕ) → 8576 ≤ n → stands (replicate n 0) room ≡ empty
+pub zeros-stand : (n : ℕ) (room : List ℕ) → recordSize ≤ n → stands (replicate n 0) room ≡ empty
 zeros-stand n room lr =
     ap (λ (z : List ℕ). stands z room) (sym (zeros-blank n))
     ∙ blank-stands (replicate n 0) room n (let w : length {A = ℕ} (replicate n 0) ≡ n = length-replicate {A = ℕ} n 0 in omega arith) lr
 
-pub zeros-made : (n : ℕ) (room : List ℕ) → 8576 ≤ n → 1048560 ≤ length room → Made (replicate n 0) room
+pub zeros-made : (n : ℕ) (room : List ℕ) → recordSize ≤ n → roomSize ≤ length room → Made (replicate n 0) room
 zeros-made n room lr lm =
     subst (λ (z : List ℕ). Made z room) (zeros-blank n)
     (blank-made (replicate n 0) room n (let w : length {A = ℕ} (replicate n 0) ≡ n = length-replicate {A = ℕ} n 0 in omega arith) lr lm)

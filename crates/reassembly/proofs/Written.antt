@@ -14,9 +14,10 @@ use Rattle.wire.proofs.Parts.{part-same, part-other, part-within, part-inside, 
 use Rattle.wire.proofs.Numbers.{length-little, little-two, little-four, little-eight, little-back, littleAt-reads}
 use Rattle.wire.proofs.Slices.{part-alike}
 use Rattle.wire.proofs.Zeros.{littleAt-zeros}
+use Rattle.reassembly.specs.Sizes.{slotSize, roomSize, headSize, tablesAt, entrySize, tableSize, recordSize}
 use Rattle.reassembly.specs.declared.Head.{Head}
 use Rattle.reassembly.specs.declared.Entry.{Entry}
-use Rattle.reassembly.specs.Record.{headOf, headBytes, entryOf, entryBytes, headAt, withHead, entryAt, withEntry, cleared, roomOf}
+use Rattle.reassembly.specs.Record.{entryPlace, headOf, headBytes, entryOf, entryBytes, headAt, withHead, entryAt, withEntry, cleared, roomOf}
 use Rattle.reassembly.specs.Calls.{keptRoom}
 use Rattle.reassembly.proofs.Fields.{HeadFits, four, headRow, entryRow, head-written, entry-written}
 
@@ -31,7 +32,7 @@ apart i j q = go (ltb i j) refl
         lt : j ≤ i → j < i
         lt le = let ne : i ≡ j → ⊥ = q in omega arith
 
-pub head-wide : (h : Head) → length (headBytes h) ≡ 24
+pub head-wide : (h : Head) → length (headBytes h) ≡ headSize
 unfolding headBytes
 head-wide h = simp (length-append, length-little) refl
 
@@ -84,115 +85,115 @@ entry-zeros : entryOf (replicate 4 0) ≡ noEntry
 unfolding entryOf
 entry-zeros = λ j. record { place = littleAt-zeros 4 2 0 (omega arith) j; len = littleAt-zeros 4 2 2 (omega arith) j }
 
-module _ (rec : List ℕ) (long : 8576 ≤ length rec) (i : ℕ) (hi : i < 16) where
+module _ (rec : List ℕ) (long : recordSize ≤ length rec) (i : ℕ) (hi : i < 16) where
   module _ (h : Head) where
-    fits-head : i * 24 + length (headBytes h) ≤ length rec
+    fits-head : i * headSize + length (headBytes h) ≤ length rec
     fits-head = omega (arith, head-wide h)
 
     pub length-head : length (withHead rec i h) ≡ length rec
     unfolding withHead
-    length-head = length-splice rec (i * 24) (headBytes h) fits-head
+    length-head = length-splice rec (i * headSize) (headBytes h) fits-head
 
     pub head-same : HeadFits h → headAt (withHead rec i h) i ≡ h
     unfolding withHead headAt
     head-same f =
-        ap (λ (n : ℕ). headOf (part (splice rec (i * 24) (headBytes h)) (i * 24) n)) (sym (head-wide h))
-        ∙ ap headOf (part-same rec (i * 24) (headBytes h) fits-head)
+        ap (λ (n : ℕ). headOf (part (splice rec (i * headSize) (headBytes h)) (i * headSize) n)) (sym (head-wide h))
+        ∙ ap headOf (part-same rec (i * headSize) (headBytes h) fits-head)
         ∙ head-back h f
 
     pub head-other : (j : ℕ) → j ≢ i → headAt (withHead rec i h) j ≡ headAt rec j
     unfolding withHead headAt
-    head-other j q = ap headOf (part-other rec (i * 24) (headBytes h) fits-head (j * 24) 24 (side (apart j i q)))
+    head-other j q = ap headOf (part-other rec (i * headSize) (headBytes h) fits-head (j * headSize) headSize (side (apart j i q)))
       where
-        side : (j < i) ⊎ (i < j) → (j * 24 + 24 ≤ i * 24) ⊎ (i * 24 + length (headBytes h) ≤ j * 24)
+        side : (j < i) ⊎ (i < j) → (j * headSize + headSize ≤ i * headSize) ⊎ (i * headSize + length (headBytes h) ≤ j * headSize)
         side (inl a) = inl (omega arith)
         side (inr a) = inr (omega (arith, head-wide h))
 
     pub head-entry : (j k : ℕ) → entryAt (withHead rec i h) j k ≡ entryAt rec j k
     unfolding withHead entryAt
-    head-entry j k = ap entryOf (part-other rec (i * 24) (headBytes h) fits-head (384 + j * 512 + k * 4) 4 (inr (omega (arith, head-wide h))))
+    head-entry j k = ap entryOf (part-other rec (i * headSize) (headBytes h) fits-head (entryPlace j k) entrySize (inr (omega (arith, head-wide h))))
 
   module _ (m : ℕ) (hm : m < 128) (e : Entry) where
-    fits-entry : 384 + i * 512 + m * 4 + length (entryBytes e) ≤ length rec
+    fits-entry : entryPlace i m + length (entryBytes e) ≤ length rec
     fits-entry = omega (arith, entry-wide e)
 
     pub length-entry : length (withEntry rec i m e) ≡ length rec
     unfolding withEntry
-    length-entry = length-splice rec (384 + i * 512 + m * 4) (entryBytes e) fits-entry
+    length-entry = length-splice rec (entryPlace i m) (entryBytes e) fits-entry
 
     pub entry-same : e .place < 65536 → e .len < 65536 → entryAt (withEntry rec i m e) i m ≡ e
     unfolding withEntry entryAt
     entry-same p l =
-        ap (λ (n : ℕ). entryOf (part (splice rec (384 + i * 512 + m * 4) (entryBytes e)) (384 + i * 512 + m * 4) n)) (sym (entry-wide e))
-        ∙ ap entryOf (part-same rec (384 + i * 512 + m * 4) (entryBytes e) fits-entry)
+        ap (λ (n : ℕ). entryOf (part (splice rec (entryPlace i m) (entryBytes e)) (entryPlace i m) n)) (sym (entry-wide e))
+        ∙ ap entryOf (part-same rec (entryPlace i m) (entryBytes e) fits-entry)
         ∙ entry-back e p l
 
     pub entry-beside : (k : ℕ) → k ≢ m → entryAt (withEntry rec i m e) i k ≡ entryAt rec i k
     unfolding withEntry entryAt
-    entry-beside k q = ap entryOf (part-other rec (384 + i * 512 + m * 4) (entryBytes e) fits-entry (384 + i * 512 + k * 4) 4 (side (apart k m q)))
+    entry-beside k q = ap entryOf (part-other rec (entryPlace i m) (entryBytes e) fits-entry (entryPlace i k) entrySize (side (apart k m q)))
       where
-        side : (k < m) ⊎ (m < k) → (384 + i * 512 + k * 4 + 4 ≤ 384 + i * 512 + m * 4) ⊎ (384 + i * 512 + m * 4 + length (entryBytes e) ≤ 384 + i * 512 + k * 4)
+        side : (k < m) ⊎ (m < k) → (entryPlace i k + entrySize ≤ entryPlace i m) ⊎ (entryPlace i m + length (entryBytes e) ≤ entryPlace i k)
         side (inl a) = inl (omega arith)
         side (inr a) = inr (omega (arith, entry-wide e))
 
     pub entry-other : (j k : ℕ) → j ≢ i → k < 128 → entryAt (withEntry rec i m e) j k ≡ entryAt rec j k
     unfolding withEntry entryAt
-    entry-other j k q hk = ap entryOf (part-other rec (384 + i * 512 + m * 4) (entryBytes e) fits-entry (384 + j * 512 + k * 4) 4 (side (apart j i q)))
+    entry-other j k q hk = ap entryOf (part-other rec (entryPlace i m) (entryBytes e) fits-entry (entryPlace j k) entrySize (side (apart j i q)))
       where
-        side : (j < i) ⊎ (i < j) → (384 + j * 512 + k * 4 + 4 ≤ 384 + i * 512 + m * 4) ⊎ (384 + i * 512 + m * 4 + length (entryBytes e) ≤ 384 + j * 512 + k * 4)
+        side : (j < i) ⊎ (i < j) → (entryPlace j k + entrySize ≤ entryPlace i m) ⊎ (entryPlace i m + length (entryBytes e) ≤ entryPlace j k)
         side (inl a) = inl (omega arith)
         side (inr a) = inr (omega (arith, entry-wide e))
 
     pub entry-head : (j : ℕ) → j < 16 → headAt (withEntry rec i m e) j ≡ headAt rec j
     unfolding withEntry headAt
-    entry-head j hj = ap headOf (part-other rec (384 + i * 512 + m * 4) (entryBytes e) fits-entry (j * 24) 24 (inl (omega arith)))
+    entry-head j hj = ap headOf (part-other rec (entryPlace i m) (entryBytes e) fits-entry (j * headSize) headSize (inl (omega arith)))
 
   zeros : List ℕ
-  zeros = replicate 512 0
+  zeros = replicate tableSize 0
 
-  wide-zeros : length zeros ≡ 512
+  wide-zeros : length zeros ≡ tableSize
   unfolding zeros
-  wide-zeros = length-replicate {A = ℕ} 512 0
+  wide-zeros = length-replicate {A = ℕ} tableSize 0
 
-  fits-zeros : 384 + i * 512 + length zeros ≤ length rec
+  fits-zeros : tablesAt + i * tableSize + length zeros ≤ length rec
   fits-zeros = omega (arith, wide-zeros)
 
   pub length-cleared : length (cleared rec i) ≡ length rec
   unfolding cleared zeros
-  length-cleared = length-splice rec (384 + i * 512) zeros fits-zeros
+  length-cleared = length-splice rec (tablesAt + i * tableSize) zeros fits-zeros
 
   pub cleared-head : (j : ℕ) → j < 16 → headAt (cleared rec i) j ≡ headAt rec j
   unfolding cleared headAt zeros
-  cleared-head j hj = ap headOf (part-other rec (384 + i * 512) zeros fits-zeros (j * 24) 24 (inl (omega arith)))
+  cleared-head j hj = ap headOf (part-other rec (tablesAt + i * tableSize) zeros fits-zeros (j * headSize) headSize (inl (omega arith)))
 
   pub cleared-other : (j k : ℕ) → j ≢ i → k < 128 → entryAt (cleared rec i) j k ≡ entryAt rec j k
   unfolding cleared entryAt zeros
-  cleared-other j k q hk = ap entryOf (part-other rec (384 + i * 512) zeros fits-zeros (384 + j * 512 + k * 4) 4 (side (apart j i q)))
+  cleared-other j k q hk = ap entryOf (part-other rec (tablesAt + i * tableSize) zeros fits-zeros (entryPlace j k) entrySize (side (apart j i q)))
     where
-      side : (j < i) ⊎ (i < j) → (384 + j * 512 + k * 4 + 4 ≤ 384 + i * 512) ⊎ (384 + i * 512 + length zeros ≤ 384 + j * 512 + k * 4)
+      side : (j < i) ⊎ (i < j) → (entryPlace j k + entrySize ≤ tablesAt + i * tableSize) ⊎ (tablesAt + i * tableSize + length zeros ≤ entryPlace j k)
       side (inl a) = inl (omega arith)
       side (inr a) = inr (omega (arith, wide-zeros))
 
   pub cleared-entry : (k : ℕ) → k < 128 → entryAt (cleared rec i) i k ≡ noEntry
   unfolding cleared entryAt zeros
   cleared-entry k hk =
-      ap entryOf (part-within rec (384 + i * 512) zeros fits-zeros (k * 4) 4 (omega (arith, wide-zeros)) ∙ part-alike 0 512 (k * 4) 4 (omega arith))
+      ap entryOf (part-within rec (tablesAt + i * tableSize) zeros fits-zeros (k * entrySize) entrySize (omega (arith, wide-zeros)) ∙ part-alike 0 tableSize (k * entrySize) entrySize (omega arith))
       ∙ entry-zeros
 
 -- the room of slot i with a piece put after t bytes, and the other slots' rooms
-module _ (room : List ℕ) (long : 1048560 ≤ length room) (i : ℕ) (hi : i < 16) (t : ℕ) (v : List ℕ) (fits : t + length v ≤ 65535) where
+module _ (room : List ℕ) (long : roomSize ≤ length room) (i : ℕ) (hi : i < 16) (t : ℕ) (v : List ℕ) (fits : t + length v ≤ slotSize) where
   pub length-kept : length (keptRoom room i t v) ≡ length room
   unfolding keptRoom
-  length-kept = length-splice room (i * 65535 + t) v (omega arith)
+  length-kept = length-splice room (i * slotSize + t) v (omega arith)
 
   pub kept-room : roomOf (keptRoom room i t v) i ≡ splice (roomOf room i) t v
   unfolding keptRoom roomOf
-  kept-room = part-inside room (i * 65535) 65535 t v (omega arith) fits
+  kept-room = part-inside room (i * slotSize) slotSize t v (omega arith) fits
 
   pub kept-other : (j : ℕ) → j ≢ i → roomOf (keptRoom room i t v) j ≡ roomOf room j
   unfolding keptRoom roomOf
-  kept-other j q = part-other room (i * 65535 + t) v (omega arith) (j * 65535) 65535 (side (apart j i q))
+  kept-other j q = part-other room (i * slotSize + t) v (omega arith) (j * slotSize) slotSize (side (apart j i q))
     where
-      side : (j < i) ⊎ (i < j) → (j * 65535 + 65535 ≤ i * 65535 + t) ⊎ (i * 65535 + t + length v ≤ j * 65535)
+      side : (j < i) ⊎ (i < j) → (j * slotSize + slotSize ≤ i * slotSize + t) ⊎ (i * slotSize + t + length v ≤ j * slotSize)
       side (inl a) = inl (omega arith)
       side (inr a) = inr (omega arith)

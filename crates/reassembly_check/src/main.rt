@@ -2,6 +2,8 @@
 use libc::STDIN_FILENO;
 use libc::STDOUT_FILENO;
 use lines::Got;
+use reassembly::RECORD_SIZE;
+use reassembly::ROOM_SIZE;
 use reassembly::Reply;
 ghost use Prim.Native.Nat.{_≤_, _<_};
 ghost use lib.ListN.{length};
@@ -239,14 +241,14 @@ fn run(text: &[u8], rec: &mut [u8], room: &mut [u8], out: &mut [u8], piece: &mut
 }
 
 // Room for the pieces of 16 messages.
-fn blank() -> [u8; 1048560] {
-    [0u8; 1048560]
+fn blank() -> [u8; ROOM_SIZE] {
+    [0u8; ROOM_SIZE]
 }
 
 fn main() {
     let mut text = [0u8; 131072];
     let n = io::read_full(STDIN_FILENO, &mut text);
-    let mut rec = [0u8; 8576];
+    let mut rec = [0u8; RECORD_SIZE];
     let mut room = blank();
     let mut out = [0u8; 65536];
     let mut piece = [0u8; 2048];

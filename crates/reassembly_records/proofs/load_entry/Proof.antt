@@ -1,7 +1,8 @@
 use mathlib.Core.Path.{ap, _∙_}
 use Prim.Native.Nat.{_+_, _*_}
 use Rattle.wire.proofs.Slices.{slice-is}
-use Rattle.reassembly.specs.Record.{entryAt, entryOf}
+use Rattle.reassembly.specs.Sizes.{entrySize}
+use Rattle.reassembly.specs.Record.{entryPlace, entryAt, entryOf}
 use borrow.Author.Needs.{needs}
 use Rattle.reassembly_records.proofs.load_entry.Statement.{statement}
 use Rattle.reassembly_records.proofs.load_entry.Tie as tie
@@ -37,7 +38,7 @@ returns : tie.Need-returns
 unfolding entryAt
 returns c =
     let a = c .before .before .before .args in
-    c .entry-of .ensures ∙ ap entryOf (slice-is (a .rec .now) (384 + a .i * 512 + a .k * 4) 4)
+    c .entry-of .ensures ∙ ap entryOf (slice-is (a .rec .now) (entryPlace (a .i) (a .k)) entrySize)
 
 pub load-entry-spec : {M : Type 1} → statement M
 load-entry-spec =

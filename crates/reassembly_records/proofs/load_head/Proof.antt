@@ -1,6 +1,7 @@
 use mathlib.Core.Path.{ap, _∙_}
 use Prim.Native.Nat.{_*_}
 use Rattle.wire.proofs.Slices.{slice-is}
+use Rattle.reassembly.specs.Sizes.{headSize}
 use Rattle.reassembly.specs.Record.{headAt, headOf}
 use borrow.Author.Needs.{needs}
 use Rattle.reassembly_records.proofs.load_head.Statement.{statement}
@@ -28,7 +29,7 @@ returns : tie.Need-returns
 unfolding headAt
 returns c =
     let a = c .before .before .before .args in
-    c .head-of .ensures ∙ ap headOf (slice-is (a .rec .now) (a .i * 24) 24)
+    c .head-of .ensures ∙ ap headOf (slice-is (a .rec .now) (a .i * headSize) headSize)
 
 pub load-head-spec : {M : Type 1} → statement M
 load-head-spec =

@@ -1,5 +1,5 @@
 use Prim.Native.Nat.{_+_, _*_}
-use Rattle.reassembly.specs.Record.{withEntry}
+use Rattle.reassembly.specs.Record.{entryPlace, withEntry}
 use Rattle.reassembly.proofs.Fields.{entry-put}
 use borrow.Author.Needs.{needs}
 use Rattle.reassembly_records.proofs.save_entry.Statement.{statement}
@@ -33,7 +33,7 @@ returns : tie.Need-returns
 unfolding withEntry
 returns c =
     let a = c .before .before .before .before .before .before .before .before .before .args in
-    entry-put (a .rec .now) (384 + a .i * 512 + a .k * 4) (a .e) (search needs) (c .before .before .before .before .before .before .put-u16-le .ensures) (c .before .before .put-u16-le2 .ensures)
+    entry-put (a .rec .now) (entryPlace (a .i) (a .k)) (a .e) (search needs) (c .before .before .before .before .before .before .put-u16-le .ensures) (c .before .before .put-u16-le2 .ensures)
 
 pub save-entry-spec : {M : Type 1} → statement M
 save-entry-spec =

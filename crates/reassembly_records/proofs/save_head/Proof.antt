@@ -1,4 +1,5 @@
 use Prim.Native.Nat.{_*_}
+use Rattle.reassembly.specs.Sizes.{headSize}
 use Rattle.reassembly.specs.Record.{withHead}
 use Rattle.reassembly.proofs.Fields.{head-put}
 use borrow.Author.Needs.{needs}
@@ -45,7 +46,7 @@ returns : tie.Need-returns
 unfolding withHead
 returns c =
     let a = c .before .before .before .before .before .before .before .before .before .before .before .before .before .before .before .before .before .before .before .before .before .before .args in
-    head-put (a .rec .now) (a .i * 24) (a .h) (search needs)
+    head-put (a .rec .now) (a .i * headSize) (a .h) (search needs)
     (c .before .before .before .before .before .before .before .before .before .before .before .before .before .before .before .before .before .before .before .put-u32-le .ensures)
     (c .before .before .before .before .before .before .before .before .before .before .before .before .before .before .before .put-u64-le .ensures)
     (c .before .before .before .before .before .before .before .before .before .before .before .put-u32-le2 .ensures)

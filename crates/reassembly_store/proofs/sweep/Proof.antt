@@ -1,3 +1,4 @@
+use Rattle.reassembly.specs.Sizes.{recordSize}
 use Rattle.reassembly.proofs.Sweeps.{sweep-promise}
 use mathlib.Core.Path.{_≡_, refl}
 use borrow.Author.Tests.{lt-ltb, le-ltb}
@@ -13,7 +14,7 @@ returns : tie.Need-returns
 unfolding swept
 returns c =
     let a = c .before .before .args in
-    let t : ltb (length (a .rec .now)) 8576 ≡ true = lt-ltb (length (a .rec .now)) 8576 (search needs) in
+    let t : ltb (length (a .rec .now)) recordSize ≡ true = lt-ltb (length (a .rec .now)) recordSize (search needs) in
     let e : a .rec .now ≡ swept (a .second) (a .rec .now) = rw t refl in
     ((refl, e), sweep-promise (a .second) (a .rec .now) (a .rec .now) e)
 
@@ -27,7 +28,7 @@ returns-2 : tie.Need-returns-2
 unfolding swept
 returns-2 c =
     let a = c .before .before .before .before .before .before .args in
-    let t : ltb (length (a .rec .now)) 8576 ≡ false = le-ltb (length (a .rec .now)) 8576 (search needs) in
+    let t : ltb (length (a .rec .now)) recordSize ≡ false = le-ltb (length (a .rec .now)) recordSize (search needs) in
     let e : c .before .before .sweep-all .last .0 ≡ swept (a .second) (a .rec .now) = rw t (c .before .before .sweep-all .ensures) in
     ((refl, e), sweep-promise (a .second) (a .rec .now) (c .before .before .sweep-all .last .0) e)
 

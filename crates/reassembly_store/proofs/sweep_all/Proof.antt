@@ -3,13 +3,14 @@ use native.Mathlib.Omega.{arith}
 use lib.ListN.{length}
 use borrow.Author.Needs.{needs}
 use Prim.Native.Nat.{_≤_, _-_}
+use Rattle.reassembly.specs.Sizes.{recordSize}
 use Rattle.reassembly.specs.Calls.{sweptTo}
 use Rattle.reassembly.proofs.Branches.{swept-more}
 use Rattle.reassembly_store.proofs.sweep_all.Statement.{statement}
 use Rattle.reassembly_store.proofs.sweep_all.Tie as tie
 
 abbrev Inv-loop : tie.InvT-loop
-Inv-loop rec₀ second i₀ rec i = (i ≤ 16) × (length rec ≡ length rec₀) × (8576 ≤ length rec₀) × (rec ≡ sweptTo second rec₀ i)
+Inv-loop rec₀ second i₀ rec i = (i ≤ 16) × (length rec ≡ length rec₀) × (recordSize ≤ length rec₀) × (rec ≡ sweptTo second rec₀ i)
 
 abbrev μ-loop : tie.MeasureT-loop
 μ-loop rec₀ second i₀ rec i = 16 - i

@@ -3,6 +3,7 @@ use mathlib.Core.List.{List}
 use Rattle.wire.specs.Parts.{part, splice}
 use Rattle.wire.specs.Numbers.{littleBytes}
 use Rattle.wire.proofs.Parts.{part-is, length-part}
+use Rattle.acks.specs.Recorded.{trackerSize}
 use Rattle.acks.specs.History.{answerTo}
 use Rattle.acks.specs.Tracking.{isDuplicate, marksAfter}
 use native.Mathlib.Omega.{arith}
@@ -66,7 +67,7 @@ returns-3 : tie.Need-returns-3
 returns-3 c =
     let a = c .before .before .before .before .before .before .before .before .before .before .before .before .before .before .before .before .before .args in
     let top = c .before .before .before .before .before .before .before .before .before .before .before .before .before .le-u32 .result in
-    let long : 259 ≤ length (a .tracker .now) = c .before .before .before .before .before .before .before .before .before .before .before .before .before .before .before .if1 .left in
+    let long : trackerSize ≤ length (a .tracker .now) = c .before .before .before .before .before .before .before .before .before .before .before .before .before .before .before .if1 .left in
     let zero : 0 ≡ answerTo top (isDuplicate top (part (a .tracker .now) 4 255)) (a .n) = sym (c .before .before .before .before .before .before .before .before .before .if2 .left) ∙ c .before .before .before .before .before .before .before .before .before .before .answer .ensures
     ∙ ap (λ (m : List ℕ). answerTo top (isDuplicate top m) (a .n)) (part-is (a .tracker .now) 4 255) in
     let put : c .before .before .before .before .before .before .put-u32-le .last .0 ≡ splice (a .tracker .now) 0 (littleBytes 4 (max top (a .n))) =

@@ -2,6 +2,7 @@ use mathlib.Core.Path.{_≡_, refl, ap, _∙_}
 use Prim.Native.Nat.{_≤_, _-_, _+_, _*_}
 use native.Mathlib.Omega.{arith}
 use lib.ListN.{length}
+use Rattle.reassembly.specs.Sizes.{slotSize}
 use Rattle.reassembly.specs.Joining.{outsideOr, someOf, joinsOutside, lengthOr, sumOf}
 use Rattle.reassembly.proofs.Joined.{some-turn, sum-turn}
 use borrow.Author.Needs.{needs}
@@ -9,7 +10,7 @@ use Rattle.reassembly_slots.proofs.pieces.measure.Statement.{statement}
 use Rattle.reassembly_slots.proofs.pieces.measure.Tie as tie
 
 abbrev Inv-loop : tie.InvT-loop
-Inv-loop rec i m v last outside₀ size₀ k₀ outside size k = (k ≤ last + 1) × (size ≤ k * 65535) × (outside ≡ someOf (outsideOr rec i m) k) × (size ≡ sumOf (lengthOr rec i m (length v)) k)
+Inv-loop rec i m v last outside₀ size₀ k₀ outside size k = (k ≤ last + 1) × (size ≤ k * slotSize) × (outside ≡ someOf (outsideOr rec i m) k) × (size ≡ sumOf (lengthOr rec i m (length v)) k)
 
 abbrev μ-loop : tie.MeasureT-loop
 μ-loop rec i m v last outside₀ size₀ k₀ outside size k = last + 1 - k

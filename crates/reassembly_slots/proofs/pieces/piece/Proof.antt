@@ -5,6 +5,7 @@ use native.Mathlib.Omega.{arith}
 use lib.ListN.{take, drop}
 use Rattle.wire.specs.Parts.{part}
 use Rattle.wire.proofs.Slices.{slice-is}
+use Rattle.reassembly.specs.Sizes.{slotSize}
 use Rattle.reassembly.specs.Record.{outside, roomOf, pieceAt}
 use Rattle.reassembly.proofs.Joined.{inside-le}
 use borrow.Author.Needs.{needs}
@@ -47,7 +48,7 @@ part-result-start c = search needs
 part-result-end : tie.Need-part-result-end
 part-result-end c =
     let e = c .before .before .before .load-entry in
-    let q : e .result .place + e .result .len ≤ 65535 = inside-le (e .result) (ap outside (e .ensures) ∙ c .before .before .before .before .before .before .pre .4) in
+    let q : e .result .place + e .result .len ≤ slotSize = inside-le (e .result) (ap outside (e .ensures) ∙ c .before .before .before .before .before .before .pre .4) in
     search needs
 
 returns : tie.Need-returns
@@ -56,9 +57,9 @@ returns c =
     let a = c .before .before .before .before .before .before .before .args in
     let p = c .before .before .before .usize-from-u16 .result in
     let n = c .before .before .usize-from-u162 .result in
-    let b : ℕ = a .i * 65535 in
-    ap (λ (z : List ℕ). take (p + n - p) (drop p z)) (slice-is (a .room .now) b 65535)
-    ∙ slice-is (part (a .room .now) b 65535) p n
+    let b : ℕ = a .i * slotSize in
+    ap (λ (z : List ℕ). take (p + n - p) (drop p z)) (slice-is (a .room .now) b slotSize)
+    ∙ slice-is (part (a .room .now) b slotSize) p n
     ∙ cc
 
 pub piece-spec : {M : Type 1} → statement M
