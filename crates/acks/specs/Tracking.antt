@@ -17,7 +17,7 @@ fresh = record { highest = 0; marks = replicate 255 0 }
 unfoldable pub mark : List ℕ → ℕ → Bool
 mark m n = not (eqb (getD m (n % 255) 0) 0)
 
--- a duplicate: in the window and received
+-- a duplicate: in the window and marked; that this is in the window and received is promises `Duplicates`
 unfoldable pub isDuplicate : ℕ → List ℕ → ℕ → Bool
 isDuplicate top m n = inWindow top n && mark m n
 

@@ -68,7 +68,7 @@ address size left =
     (cond (eqb size 18) (takesBytes 18 left)
     (Take.Refused 8)))
 
--- what the body at a place takes, by type; every type that is not listed here takes size bytes
+-- what the body at a place takes, by type: 0, 15, 16, 17, 20 and 21 their bytes whatever the size says; every type that is not listed here size bytes
 unfoldable pub takenAt : List ℕ → ℕ → ℕ → ℕ → Taken
 takenAt s body kind size =
     cond (eqb kind 0) (takesBytes 4 (length s - body))

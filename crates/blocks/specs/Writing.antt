@@ -58,7 +58,7 @@ fieldBytes (Body.Congestion f) = f ∷ []
 fieldBytes (Body.Padding p) = []
 fieldBytes (Body.Opaque k p) = []
 
--- how many they are
+-- how many they are: the length of `fieldBytes` (proofs/Puts `fields-length`)
 abbrev pub fieldLength : Block → ℕ
 fieldLength (Body.DateTime t) = 4
 fieldLength (Body.Options a b c d e f g h) = 12
@@ -108,7 +108,7 @@ carriedBytes b body = cond (carries b) body []
 abbrev pub sizeOf : Block → List ℕ → ℕ
 sizeOf b body = fieldLength b + length (carriedBytes b body)
 
--- a block's bytes: type, size, fields, bytes
+-- a block's bytes: type, size, fields, and the bytes that are lent; the part in the block's own value is what reading shows, and is passed over
 unfoldable pub blockBytes : Block → List ℕ → List ℕ
 blockBytes b body = (kindOf b ∷ []) ++ bigBytes 2 (sizeOf b body) ++ fieldBytes b ++ carriedBytes b body
 

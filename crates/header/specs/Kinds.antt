@@ -23,7 +23,7 @@ isListed t = isKeyed t || isShort t || isMiddle t
 unfoldable pub isVersion : ℕ → Bool
 isVersion v = eqb v 2 || eqb v 3 || eqb v 4
 
--- how many bytes from 16 on are masked
+-- how many bytes from 16 on are masked; a type that is not listed is refused before this is asked
 unfoldable pub maskedLength : ℕ → ℕ
 maskedLength t = cond (isKeyed t) 48 (cond (isShort t) 0 16)
 

@@ -13,7 +13,7 @@ use Rattle.header.specs.declared.Answer.the-variants.{Header, Refused}
 use Rattle.header.specs.Kinds.{isKeyed, isShort, isListed, isVersion}
 use Rattle.header.specs.Unmasking.{front, packetKind, unmasked}
 
--- the refusal of a packet of n bytes whose first 16 are unmasked in q; 0 is none
+-- the refusal of a packet of n bytes whose first 16 are unmasked in q, 21 to 24: by type, version, 64 bytes for types 0 and 1, number; 0 is none
 unfoldable pub frontRefusal : List ℕ → ℕ → ℕ
 frontRefusal q n =
     cond (not (isListed (packetKind q))) 21
@@ -48,7 +48,7 @@ longHeader t l =
     (cond (eqb t 10) (TokenRequest l)
     (HolePunch l)))))
 
--- the fields of an unmasked header: SessionConfirmed has fragment and count in byte 13, Data its flag in bit 0 of it
+-- the fields of an unmasked header: SessionConfirmed has destination, number, fragment (the high nibble of byte 13) and count (the low one), Data its flag in bit 0 of byte 13
 unfoldable pub headerAt : List ℕ → HeaderKind
 headerAt u =
     cond (eqb (packetKind u) 2) (SessionConfirmed (littleAt 8 u 0) (bigAt 4 u 8) (getD u 13 0 / 16) (getD u 13 0 % 16))

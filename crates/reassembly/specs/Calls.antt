@@ -57,7 +57,7 @@ kept x i l total g v = lent (keptRec (x .rec) i (l .number) total (length v) g) 
 abbrev pub finishedMessage : Lent → ℕ → Label → Head → List ℕ → List ℕ
 finishedMessage x i l g v = messageOf (x .rec) (x .room) i (l .number) v (g .last + 1)
 
--- the message comes out, with its head and length in the reply; its slot is free
+-- the message comes out: it stands at the start of the assembly buffer, the rest of which stays, its head and length are in the reply, its slot is free
 abbrev pub cameOut : Lent → ℕ → Head → List ℕ → After
 cameOut x i g m =
     after (record { number = 60; kind = g .kind; expires = g .expires; length = length m })
@@ -77,7 +77,7 @@ putIn x i h l v =
     (cond (isComplete (grownBy h l (length v))) (finished x i l (grownBy h l (length v)) v)
     (after (bare 0) (kept x i l (h .total) (grownBy h l (length v)) v)))
 
--- a piece whose number is held in slot i, whose head is h: 59 where the record names bytes outside for the held one, else 54 or 55
+-- a piece whose number is held in slot i, whose head is h, is compared with the held one: 59 where the record names bytes outside for that, else 54 or 55
 unfoldable pub compared : List ℕ → List ℕ → ℕ → Head → Label → List ℕ → ℕ
 compared rec room i h l v = cond (outside (entryAt rec i (l .number))) 59 (again h l (pieceAt rec room i (l .number)) v)
 

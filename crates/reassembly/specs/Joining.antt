@@ -31,7 +31,7 @@ someOf p (suc n) = someOf p n || p n
 unfoldable pub joinsOutside : List ℕ → ℕ → ℕ → ℕ → Bool
 joinsOutside rec i m n = someOf (outsideOr rec i m) n
 
--- the length of number k of slot i by its entry, where number m has n bytes
+-- (From here on: how the code finds the length before it joins.) The length of number k of slot i by its entry, where number m has n bytes
 unfoldable pub lengthOr : List ℕ → ℕ → ℕ → ℕ → ℕ → ℕ
 lengthOr rec i m n k = cond (eqb k m) n (entryAt rec i k .len)
 

@@ -53,7 +53,7 @@ withEntry rec i k e = splice rec (entryPlace i k) (entryBytes e)
 unfoldable pub cleared : List ℕ → ℕ → List ℕ
 cleared rec i = splice rec (tablesAt + i * tableSize) (replicate tableSize 0)
 
--- an entry names bytes outside its slot's own room
+-- an entry names bytes outside its slot's own part of the room: so 01's "outside it" is read, since bytes of another slot are none of this message's
 unfoldable pub outside : Entry → Bool
 outside e = ltb slotSize (e .place + e .len)
 

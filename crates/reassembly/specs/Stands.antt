@@ -79,7 +79,7 @@ unfoldable pub laidOut : List ℕ → Option Rebuilt → List ℕ
 laidOut out none = out
 laidOut out (some w) = splice out 0 (w .bytes)
 
--- A call did to record, room and assembly buffer what the store's answer says, and left what a call may be lent again.
+-- A call did to record, room and assembly buffer what the store's answer says, and left what a call may be lent again. The contracts of reassembly_store promise it.
 pub record Agrees (out : List ℕ) (x : After) (a : Answer) : Type 0 where
   pub reply : x .reply ≡ replyFor (a .number) (a .out)
   pub delivered : x .left .out ≡ laidOut out (a .out)
