@@ -18,9 +18,9 @@ between lo hi x = leb lo x && leb x hi
 unfoldable pub isI2npType : ℕ → Bool
 isI2npType t = (between 1 3 t || between 10 11 t) || between 18 26 t
 
--- a body of so many bytes, if as many are left; else 1
+-- a body of so many bytes, if as many are there; else 1
 abbrev pub takesBytes : ℕ → ℕ → Taken
-takesBytes need left = cond (leb need left) (Take.Bytes need) (Take.Refused 1)
+takesBytes need there = cond (leb need there) (Take.Bytes need) (Take.Refused 1)
 
 -- size, but no less than the fields: what Options and Termination take
 abbrev pub atLeast : ℕ → ℕ → ℕ
@@ -28,7 +28,7 @@ atLeast fields size = cond (leb fields size) size fields
 
 -- 2: a RouterInfo of no bytes
 unfoldable pub routerInfo : ℕ → ℕ → Taken
-routerInfo size left = cond (leb size 2) (Take.Refused 2) (takesBytes size left)
+routerInfo size there = cond (leb size 2) (Take.Refused 2) (takesBytes size there)
 
 -- 9 by the size, 1 for the fields, 3 by the message's type, 1 for the bytes
 unfoldable pub i2np : List ℕ → ℕ → ℕ → Taken
@@ -50,10 +50,10 @@ firstFragment s body size =
 
 -- 1 for the fields, 6 for no bytes, 7 for missing ones
 unfoldable pub followOn : ℕ → ℕ → Taken
-followOn size left =
-    cond (ltb left 5) (Take.Refused 1)
+followOn size there =
+    cond (ltb there 5) (Take.Refused 1)
     (cond (leb size 5) (Take.Refused 6)
-    (cond (ltb left size) (Take.Refused 7)
+    (cond (ltb there size) (Take.Refused 7)
     (Take.Bytes size)))
 
 -- the bytes of an Ack's pairs: those above five where they are an even number, else none; a size below five has none, since minus stops at 0
@@ -62,10 +62,10 @@ pairBytesIn size = cond (eqb ((size - 5) % 2) 0) (size - 5) 0
 
 -- 1 for the port, 8 by the size, 1 for the IP
 unfoldable pub address : ℕ → ℕ → Taken
-address size left =
-    cond (ltb left 2) (Take.Refused 1)
-    (cond (eqb size 6) (takesBytes 6 left)
-    (cond (eqb size 18) (takesBytes 18 left)
+address size there =
+    cond (ltb there 2) (Take.Refused 1)
+    (cond (eqb size 6) (takesBytes 6 there)
+    (cond (eqb size 18) (takesBytes 18 there)
     (Take.Refused 8)))
 
 -- what the body at a place takes, by type: 0, 15, 16, 17, 20 and 21 their bytes whatever the size says; every type that is not listed here size bytes

@@ -15,11 +15,11 @@ pub fn is_listed(kind: u8) -> bool
     ((1 <= kind) & (kind <= 3)) | ((10 <= kind) & (kind <= 11)) | ((18 <= kind) & (kind <= 26))
 }
 
-// A body of `need` bytes where `left` are left.
-fn fits_in(need: usize, left: usize) -> Taken
-    ensures { λ r. ⌜ r ≡ takesBytes need left ⌝ }
+// A body of `need` bytes, if as many are there; else 1.
+fn takes_bytes(need: usize, there: usize) -> Taken
+    ensures { λ r. ⌜ r ≡ takesBytes need there ⌝ }
 {
-    if need <= left {
+    if need <= there {
         return Taken::Bytes { count: need };
     }
     Taken::Refused { number: 1 }
@@ -35,13 +35,13 @@ pub fn at_least(fields: usize, size: usize) -> usize
     fields
 }
 
-fn router_info(size: usize, left: usize) -> Taken
-    ensures { λ r. ⌜ r ≡ routerInfo size left ⌝ }
+fn router_info(size: usize, there: usize) -> Taken
+    ensures { λ r. ⌜ r ≡ routerInfo size there ⌝ }
 {
     if size <= 2 {
         return Taken::Refused { number: 2 };
     }
-    fits_in(size, left)
+    takes_bytes(size, there)
 }
 
 // The message's type is the first byte of the body.
@@ -49,15 +49,15 @@ fn i2np(payload: &[u8], body: usize, size: usize) -> Taken
     requires { ⌜ body ≤ length (now payload) ⌝ }
     ensures { λ r. ⌜ r ≡ i2np (now (payload .entry)) body size ⌝ }
 {
-    let left = payload.len() - body;
+    let there = payload.len() - body;
     if size < 9 {
         return Taken::Refused { number: 9 };
     }
-    if left < 9 {
+    if there < 9 {
         return Taken::Refused { number: 1 };
     }
     if is_listed(payload[body]) {
-        return fits_in(size, left);
+        return takes_bytes(size, there);
     }
     Taken::Refused { number: 3 }
 }
@@ -66,8 +66,8 @@ fn first_fragment(payload: &[u8], body: usize, size: usize) -> Taken
     requires { ⌜ body ≤ length (now payload) ⌝ }
     ensures { λ r. ⌜ r ≡ firstFragment (now (payload .entry)) body size ⌝ }
 {
-    let left = payload.len() - body;
-    if left < 9 {
+    let there = payload.len() - body;
+    if there < 9 {
         return Taken::Refused { number: 1 };
     }
     if !is_listed(payload[body]) {
@@ -76,29 +76,29 @@ fn first_fragment(payload: &[u8], body: usize, size: usize) -> Taken
     if size <= 9 {
         return Taken::Refused { number: 4 };
     }
-    if left < size {
+    if there < size {
         return Taken::Refused { number: 5 };
     }
     Taken::Bytes { count: size }
 }
 
-fn follow_on(size: usize, left: usize) -> Taken
-    ensures { λ r. ⌜ r ≡ followOn size left ⌝ }
+fn follow_on(size: usize, there: usize) -> Taken
+    ensures { λ r. ⌜ r ≡ followOn size there ⌝ }
 {
-    if left < 5 {
+    if there < 5 {
         return Taken::Refused { number: 1 };
     }
     if size <= 5 {
         return Taken::Refused { number: 6 };
     }
-    if left < size {
+    if there < size {
         return Taken::Refused { number: 7 };
     }
     Taken::Bytes { count: size }
 }
 
 // The bytes of an Ack's pairs: those above five if they are even, else none.
-fn pairs_in(size: usize) -> usize
+fn pair_bytes_in(size: usize) -> usize
     requires { ⌜ size < 65536 ⌝ }
     ensures { λ r. ⌜ (r ≡ pairBytesIn size) × (r < 65536) ⌝ }
 {
@@ -111,17 +111,17 @@ fn pairs_in(size: usize) -> usize
     0
 }
 
-fn address(size: usize, left: usize) -> Taken
-    ensures { λ r. ⌜ r ≡ address size left ⌝ }
+fn address(size: usize, there: usize) -> Taken
+    ensures { λ r. ⌜ r ≡ address size there ⌝ }
 {
-    if left < 2 {
+    if there < 2 {
         return Taken::Refused { number: 1 };
     }
     if size == 6 {
-        return fits_in(6, left);
+        return takes_bytes(6, there);
     }
     if size == 18 {
-        return fits_in(18, left);
+        return takes_bytes(18, there);
     }
     Taken::Refused { number: 8 }
 }
@@ -131,23 +131,23 @@ fn taken_at(payload: &[u8], body: usize, kind: u8, size: usize) -> Taken
     requires { ⌜ (body ≤ length (now payload)) × (size < 65536) ⌝ }
     ensures { λ r. ⌜ r ≡ takenAt (now (payload .entry)) body kind size ⌝ }
 {
-    let left = payload.len() - body;
+    let there = payload.len() - body;
     match kind {
-        0 => fits_in(4, left),
-        1 => fits_in(at_least(12, size), left),
-        2 => router_info(size, left),
+        0 => takes_bytes(4, there),
+        1 => takes_bytes(at_least(12, size), there),
+        2 => router_info(size, there),
         3 => i2np(payload, body, size),
         4 => first_fragment(payload, body, size),
-        5 => follow_on(size, left),
-        6 => fits_in(at_least(9, size), left),
-        12 => fits_in(5 + pairs_in(size), left),
-        13 => address(size, left),
-        15 => fits_in(0, left),
-        16 => fits_in(4, left),
-        17 => fits_in(12, left),
-        20 => fits_in(4, left),
-        21 => fits_in(1, left),
-        _ => fits_in(size, left),
+        5 => follow_on(size, there),
+        6 => takes_bytes(at_least(9, size), there),
+        12 => takes_bytes(5 + pair_bytes_in(size), there),
+        13 => address(size, there),
+        15 => takes_bytes(0, there),
+        16 => takes_bytes(4, there),
+        17 => takes_bytes(12, there),
+        20 => takes_bytes(4, there),
+        21 => takes_bytes(1, there),
+        _ => takes_bytes(size, there),
     }
 }
 

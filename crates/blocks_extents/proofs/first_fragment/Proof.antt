@@ -8,8 +8,8 @@ use borrow.Author.Needs.{needs}
 use Rattle.blocks_extents.proofs.first_fragment.Statement.{statement}
 use Rattle.blocks_extents.proofs.first_fragment.Tie as tie
 
-sub-left : tie.Need-sub-left
-sub-left c = search needs
+sub-there : tie.Need-sub-there
+sub-there c = search needs
 
 returns : tie.Need-returns
 unfolding firstFragment
@@ -41,7 +41,7 @@ pub first-fragment-spec : {M : Type 1} → statement M
 first-fragment-spec =
     tie.close
     (tie.spec
-    sub-left
+    sub-there
     returns
     shared-slice-read-is-listed
     is-listed-requires

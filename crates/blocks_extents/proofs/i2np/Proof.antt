@@ -8,8 +8,8 @@ use borrow.Author.Needs.{needs}
 use Rattle.blocks_extents.proofs.i2np.Statement.{statement}
 use Rattle.blocks_extents.proofs.i2np.Tie as tie
 
-sub-left : tie.Need-sub-left
-sub-left c = search needs
+sub-there : tie.Need-sub-there
+sub-there c = search needs
 
 returns : tie.Need-returns
 unfolding i2np
@@ -25,12 +25,12 @@ shared-slice-read-is-listed c = search needs
 is-listed-requires : tie.Need-is-listed-requires
 is-listed-requires c κs = search needs
 
-fits-in-requires : tie.Need-fits-in-requires
-fits-in-requires c κs = search needs
+takes-bytes-requires : tie.Need-takes-bytes-requires
+takes-bytes-requires c κs = search needs
 
 returns-3 : tie.Need-returns-3
 unfolding i2np
-returns-3 c = let a = c .before .before .before .before .before .before .before .args in c .fits-in .ensures ∙ sym (simp (le-ltb (a .size) 9 (omega arith), le-ltb (length (a .payload .now) - a .body) 9 (omega arith), sym (c .before .before .is-listed .ensures) ∙ c .before .if3 .taken))
+returns-3 c = let a = c .before .before .before .before .before .before .before .args in c .takes-bytes .ensures ∙ sym (simp (le-ltb (a .size) 9 (omega arith), le-ltb (length (a .payload .now) - a .body) 9 (omega arith), sym (c .before .before .is-listed .ensures) ∙ c .before .if3 .taken))
 
 returns-4 : tie.Need-returns-4
 unfolding i2np
@@ -40,11 +40,11 @@ pub i2np-spec : {M : Type 1} → statement M
 i2np-spec =
     tie.close
     (tie.spec
-    sub-left
+    sub-there
     returns
     returns-2
     shared-slice-read-is-listed
     is-listed-requires
-    fits-in-requires
+    takes-bytes-requires
     returns-3
     returns-4)

@@ -10,12 +10,12 @@ returns : tie.Need-returns
 unfolding routerInfo
 returns c = let a = c .before .args in simp (le-leb (a .size) 2 (omega arith))
 
-fits-in-requires : tie.Need-fits-in-requires
-fits-in-requires c κs = search needs
+takes-bytes-requires : tie.Need-takes-bytes-requires
+takes-bytes-requires c κs = search needs
 
 returns-2 : tie.Need-returns-2
 unfolding routerInfo
-returns-2 c = let a = c .before .before .args in c .fits-in .ensures ∙ sym (simp (lt-leb (a .size) 2 (omega arith)))
+returns-2 c = let a = c .before .before .args in c .takes-bytes .ensures ∙ sym (simp (lt-leb (a .size) 2 (omega arith)))
 
 pub router-info-spec : {M : Type 1} → statement M
-router-info-spec = tie.close (tie.spec returns fits-in-requires returns-2)
+router-info-spec = tie.close (tie.spec returns takes-bytes-requires returns-2)

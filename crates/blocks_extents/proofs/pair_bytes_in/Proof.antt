@@ -4,8 +4,8 @@ use native.Mathlib.Omega.{arith}
 use borrow.Author.Tests.{eq-eqb, ne-eqb}
 use Rattle.blocks.specs.Extent.{pairBytesIn}
 use borrow.Author.Needs.{needs}
-use Rattle.blocks_extents.proofs.pairs_in.Statement.{statement}
-use Rattle.blocks_extents.proofs.pairs_in.Tie as tie
+use Rattle.blocks_extents.proofs.pair_bytes_in.Statement.{statement}
+use Rattle.blocks_extents.proofs.pair_bytes_in.Tie as tie
 
 returns : tie.Need-returns
 unfolding pairBytesIn
@@ -25,5 +25,5 @@ returns-3 : tie.Need-returns-3
 unfolding pairBytesIn
 returns-3 c = let a = c .before .before .args in (simp (ne-eqb ((a .size - 5) % 2) 0 (c .if2 .left)), search needs)
 
-pub pairs-in-spec : {M : Type 1} → statement M
-pairs-in-spec = tie.close (tie.spec returns sub-if2 sub-result returns-2 returns-3)
+pub pair-bytes-in-spec : {M : Type 1} → statement M
+pair-bytes-in-spec = tie.close (tie.spec returns sub-if2 sub-result returns-2 returns-3)
