@@ -22,7 +22,7 @@ extern "C" {
 
 /* Bytes that a tracker takes, a store's record, its room, and a finished message at most. */
 #define STRAWHUB_TRACKER 259
-#define STRAWHUB_RECORD 8576
+#define STRAWHUB_RECORD 9345
 #define STRAWHUB_ROOM 1048560
 #define STRAWHUB_MESSAGE 65535
 
@@ -60,6 +60,7 @@ enum strawhub_number {
 	STRAWHUB_PIECE_AGAIN = 54,           /* exact repeat of a held piece */
 	STRAWHUB_PIECE_CONFLICT = 55,        /* same number, other content; above the last; a last that cannot be */
 	STRAWHUB_BUFFER_SHORT = 56,          /* would complete, assembly buffer too short */
+	STRAWHUB_ALREADY_FINISHED = 57,      /* piece of a finished message whose id is remembered */
 	STRAWHUB_LENT_SHORT = 59,            /* lent room or record short, or the record names bytes outside it */
 	STRAWHUB_FINISHED = 60               /* a message is finished */
 };
@@ -160,30 +161,41 @@ struct strawhub_outcome strawhub_tracker_ack_block(const uint8_t *tracker, size_
 struct strawhub_expanded strawhub_ack_expand(uint32_t through, uint8_t count, const uint8_t *pairs, size_t pairs_len,
                                              uint32_t *list, size_t list_len);
 
-/* An empty store, in the first 8,576 bytes. 0, or 59 where there are fewer. */
+/* An empty store, in the first 9,345 bytes: no message is open, and no finished one is remembered. 9,345
+ * zeros are an empty store too. 0, or 59 where there are fewer bytes. */
 uint8_t strawhub_store_new(uint8_t *record, size_t record_len);
 
-/* A first piece came, at a second. 0 kept; 60 with the whole message at the start of out; or 50, 52 to
- * 56, 59. record holds at least 8,576 bytes, room 1,048,560; out is the assembly buffer. A record that
- * no call made gets 59 too where it names bytes outside their slot's 65,535 for a piece that the call
- * would compare or join. */
+/* A first piece came, at a second. 0 kept; 60 with the whole message at the start of out; or the first
+ * refusal that holds of 59, 50, 57, 54, 55, 52, 53, 56. record holds at least 9,345 bytes, room 1,048,560;
+ * out is the assembly buffer. A record that no call made gets 59 too where it names bytes outside their
+ * slot's 65,535 for a piece that the call would compare or join.
+ *
+ * The store remembers the ids of the last finished messages, 64 at most, and answers 57 to every piece of a
+ * remembered id. The far end sends a piece again when an acknowledgement was lost; the message was
+ * delivered already. So drop the piece, and acknowledge its packet as usual. A new message under a
+ * remembered id is refused in the same way. A sweep forgets an id 30 seconds after its message was finished.
+ * Where 64 are remembered, the next message that is finished pushes out the one that was finished first.
+ * Nothing else forgets an id, so sweep regularly: before each payload, or once a second. */
 struct strawhub_reply strawhub_store_first(uint8_t *record, size_t record_len, uint8_t *room, size_t room_len,
                                            uint8_t *out, size_t out_len, uint32_t id, uint8_t kind, uint32_t expires,
                                            uint64_t second, const uint8_t *bytes, size_t bytes_len);
 
-/* A follow-on piece came, in the same way; 51 too. last is a flag. */
+/* A follow-on piece came, in the same way; the refusals are 59, 50, 51, 57, 54, 55, 52, 53, 56 in this order.
+ * last is a flag. */
 struct strawhub_reply strawhub_store_follow_on(uint8_t *record, size_t record_len, uint8_t *room, size_t room_len,
                                                uint8_t *out, size_t out_len, uint32_t id, uint8_t number, uint8_t last,
                                                uint64_t second, const uint8_t *bytes, size_t bytes_len);
 
-/* Drops exactly the messages whose opening piece came 30 seconds before this one or earlier. 0. */
+/* Drops exactly the open messages whose opening piece came 30 seconds before this second or earlier, and
+ * forgets exactly the finished ones whose finishing piece did. A message that is dropped was not finished
+ * and is not remembered: its next piece opens it anew. 0. */
 uint8_t strawhub_store_sweep(uint8_t *record, size_t record_len, uint64_t second);
 
 /* What the block at a place delivers. told: where the message stands (0 none, 1 in the payload, 2 in
  * the assembly buffer), its I2NP type, id, expiration, place and length there; all 0 where there is
  * none. 0: a whole message, or none (a piece was kept, or a block of another type); 60: a rebuilt one.
- * Or 1 to 9, or the store's refusal (59 for pieces alone), with the block's place, and then told too
- * is as it was. */
+ * Or 1 to 9, or the store's refusal (59 and 50 to 57, for pieces alone), with the block's place, and then
+ * told too is as it was. A whole message passes no store: its id is not remembered, and never gets 57. */
 struct strawhub_outcome strawhub_block_deliver(const uint8_t *payload, size_t payload_len, size_t at, uint8_t *record,
                                                size_t record_len, uint8_t *room, size_t room_len, uint8_t *out,
                                                size_t out_len, uint64_t second, uint64_t told[6]);

@@ -8,6 +8,7 @@ expiration, length, and a sum over the message's bytes. Byte j of a piece is (se
 import random
 import sys
 
+from late_repeats import READINGS, replay, wander
 from reassembly_model import Store
 
 
@@ -45,11 +46,18 @@ class Sequence:
     def sweep(self, second):
         return self.line(3, 0, 0, 0, second, 0, 0, 0, (self.store.sweep(second), None))
 
-    def piece(self, ident, pieces, i, **more):
+    def cut(self, ident, pieces, i, **more):
         seed, length = pieces[i]
         if i == 0:
             return self.first(ident, seed, length, **more)
         return self.follow(ident, i, i == len(pieces) - 1, seed, length, **more)
+
+    def piece(self, ident, number, last, second, length, room):
+        """A piece as tests/late_repeats.py names it; the check program goes through the whole buffer at each call, so it is a short one."""
+        room = min(room, 99)
+        if number == 0:
+            return self.first(ident, 0, length, second=second, room=room)
+        return self.follow(ident, 0 if number == "f0" else number, last, 1, length, second=second, room=room)
 
 
 def orders(out):
@@ -64,9 +72,9 @@ def orders(out):
             if order == "mixed":
                 rng.shuffle(places)
             for i in places:
-                s.piece(77, pieces, i)
+                s.cut(77, pieces, i)
                 if rng.random() < 0.05:
-                    s.piece(77, pieces, i)
+                    s.cut(77, pieces, i)
 
 
 def limits(out):
@@ -74,7 +82,7 @@ def limits(out):
     for extra in (0, 1):
         s = Sequence(out)
         for i in range(43):
-            s.piece(5, [(i, 1500)] * 44 + [(0, 0)], i)
+            s.cut(5, [(i, 1500)] * 44 + [(0, 0)], i)
         s.follow(5, 43, False, 43, 1000)
         s.follow(5, 44, True, 44, 35 + extra)
         s.follow(5, 44, True, 44, 35)
@@ -164,9 +172,19 @@ def sweeps(out):
     s.follow(1, 1, True, 2, 10, second=0)
 
 
+def late(out):
+    """Document 02's readings, whose answers are the document's, and runs of any pieces."""
+    for name, reading, answers in READINGS:
+        got = replay(Sequence(out), reading)
+        if got != list(map(int, answers.split())):
+            raise SystemExit(f"reading {name}: the model answers {got}, the document {answers}")
+    for seed in (44, 75):
+        wander(Sequence(out), random.Random(seed), 450)
+
+
 def main():
     out = []
-    for part in (clashes, limits, sweeps, many, orders):
+    for part in (clashes, limits, sweeps, many, orders, late):
         part(out)
     for fields in out:
         sys.stdout.write(" ".join(map(str, fields)) + "\n")

@@ -1,4 +1,4 @@
-"""An independent model of document 01's reassembly, written from its text and from nothing else."""
+"""An independent model of document 01's reassembly and of document 02's late repeats (P5), written from their text and from nothing else."""
 
 class Message:
     """An open message: the second it was opened in, its pieces by number, its last number and its head once known."""
@@ -14,10 +14,16 @@ class Message:
 
 
 class Store:
-    """16 open messages at most. A piece has 1 to 1,500 bytes and a number from 0 to 127; a message has at most 65,535 bytes."""
+    """16 open messages at most. A piece has 1 to 1,500 bytes and a number from 0 to 127; a message has at most 65,535 bytes.
 
-    def __init__(self):
+    The last `keep` finished messages are remembered as (id, second of the finishing piece), the first finished first; with 0 it is
+    the store of document 01, which remembers none.
+    """
+
+    def __init__(self, keep=64):
+        self.keep = keep
         self.open = {}
+        self.finished = []
 
     def first(self, ident, kind, expires, second, data, room):
         return self._piece(ident, 0, False, (kind, expires), second, data, room)
@@ -31,11 +37,23 @@ class Store:
 
     def sweep(self, second):
         self.open = {i: m for i, m in self.open.items() if not second >= m.second + 30}
+        self.finished = [(i, at) for i, at in self.finished if not second >= at + 30]
         return 0
+
+    def remembers(self, ident):
+        return any(i == ident for i, _ in self.finished)
+
+    def _finish(self, ident, second):
+        """The message is no longer open. Where `keep` are remembered, the first of them is pushed out."""
+        del self.open[ident]
+        self.finished.append((ident, second))
+        del self.finished[:max(0, len(self.finished) - self.keep)]
 
     def _piece(self, ident, number, last, head, second, data, room):
         if not 1 <= len(data) <= 1500:
             return 50, None
+        if self.remembers(ident):
+            return 57, None
         old = self.open.get(ident)
         if old is not None:
             if number in old.pieces:
@@ -65,5 +83,5 @@ class Store:
             del message.pieces[number]
             message.last, message.head = before
             return 56, None
-        del self.open[ident]
+        self._finish(ident, second)
         return 60, (message.head[0], message.head[1], whole)

@@ -1,5 +1,6 @@
 //! A piece taken, over whole messages. The Rust's time has the making of the Vec that its call takes and the dropping of the
-//! message that it gives; neither side's state, room or buffer is cleared between messages.
+//! message that it gives; neither side's state, room or buffer is cleared between messages. Each message has a new id, for the
+//! library refuses those that it remembers; it remembers 64 from the 64th message on, and no sweep is made.
 use crate::Row;
 use oracle::{
     ffi::Store,
@@ -46,8 +47,8 @@ fn pieces(lengths: &[usize], order: Order, open: u32) -> Vec<Piece> {
     all
 }
 
-fn rust(handler: &mut FragmentHandler<Rt>, p: &Piece) -> bool {
-    let id = MessageId::from(p.id);
+fn rust(handler: &mut FragmentHandler<Rt>, p: &Piece, first_id: u32) -> bool {
+    let id = MessageId::from(p.id.wrapping_add(first_id));
     let message = match p.number {
         0 => handler.first_fragment(MessageType(20), id, 9, p.bytes.to_vec()),
         n => handler.follow_on_fragment(id, n, p.last, p.bytes.to_vec()),
@@ -55,10 +56,11 @@ fn rust(handler: &mut FragmentHandler<Rt>, p: &Piece) -> bool {
     black_box(message).is_some()
 }
 
-fn ours(store: &mut Store, p: &Piece) -> bool {
+fn ours(store: &mut Store, p: &Piece, first_id: u32) -> bool {
+    let id = p.id.wrapping_add(first_id);
     let reply = match p.number {
-        0 => store.first(p.id, 20, 9, 0, &p.bytes),
-        n => store.follow_on(p.id, n, p.last, 0, &p.bytes),
+        0 => store.first(id, 20, 9, 0, &p.bytes),
+        n => store.follow_on(id, n, p.last, 0, &p.bytes),
     };
     black_box(reply).number == 60
 }
@@ -69,14 +71,23 @@ fn row(name: String, lengths: &[usize], order: Order, open: u32) -> Row {
     let (a, b, c) = (all.clone(), all.clone(), all.clone());
     let (mut handler, mut store, mut buffer) = (FragmentHandler::new(NoMetrics), Store::new(), vec![0u8; 65_535]);
     let done = open as usize * times;
+    let (mut theirs, mut mine) = (0u32, 0u32); // the ids that were used
     Row {
         name,
         rust: Box::new(move || {
-            let finished: usize = (0..times).map(|_| a.iter().filter(|p| rust(&mut handler, p)).count()).sum();
+            let mut finished = 0;
+            for _ in 0..times {
+                finished += a.iter().filter(|p| rust(&mut handler, p, theirs)).count();
+                theirs = theirs.wrapping_add(open);
+            }
             assert_eq!(finished, done);
         }),
         ours: Box::new(move || {
-            let finished: usize = (0..times).map(|_| b.iter().filter(|p| ours(&mut store, p)).count()).sum();
+            let mut finished = 0;
+            for _ in 0..times {
+                finished += b.iter().filter(|p| ours(&mut store, p, mine)).count();
+                mine = mine.wrapping_add(open);
+            }
             assert_eq!(finished, done);
         }),
         copy: Some(Box::new(move || {

@@ -5,7 +5,7 @@ mod calls;
 pub use calls::{ack_expand, block_list, block_read, block_write, header_read, header_write, Entry, Expanded, Fields, Outcome, Reply};
 
 pub const TRACKER: usize = 259;
-pub const RECORD: usize = 8576;
+pub const RECORD: usize = 9345;
 pub const ROOM: usize = 1_048_560;
 pub const MESSAGE: usize = 65_535;
 

@@ -1,4 +1,7 @@
 //! Reassembly: the Rust's FragmentHandler beside a store, over schedules that only ever repeat a piece exactly.
+//!
+//! The Rust remembers no finished message. So pieces of one that the library remembers, and new messages under its id, go to
+//! the library alone, which has to refuse them with 57; what both answer afterwards is compared as before.
 use crate::tally::Tally;
 use oracle::{
     ffi::{Reply, Store},
@@ -10,9 +13,14 @@ use oracle::{
     random::Random,
     runtime::{NoMetrics, Rt},
 };
+use std::collections::VecDeque;
 
 const LISTED: [u8; 14] = [1, 2, 3, 10, 11, 18, 19, 20, 21, 22, 23, 24, 25, 26];
 const OPEN: usize = 16;
+const REMEMBERED: usize = 64;
+
+/// Seconds after which a sweep drops an open message and forgets a finished one.
+const LAPSE: u64 = 30;
 
 /// A message with the pieces that carry it.
 #[derive(Debug, Clone)]
@@ -177,11 +185,33 @@ fn largest(random: &mut Random, id: u32) -> Whole {
     m
 }
 
-/// A message on its way: which pieces are still to come, and which are held.
+/// The finished messages that the library remembers, the first finished first, each with the second of its finishing piece.
+#[derive(Default)]
+struct Finished(VecDeque<(Whole, u64)>);
+
+impl Finished {
+    fn holds(&self, id: u32) -> bool {
+        self.0.iter().any(|(m, _)| m.id == id)
+    }
+
+    fn add(&mut self, message: Whole, second: u64) {
+        if self.0.len() == REMEMBERED {
+            self.0.pop_front();
+        }
+        self.0.push_back((message, second));
+    }
+
+    fn sweep(&mut self, now: u64) {
+        self.0.retain(|(_, second)| now < second + LAPSE);
+    }
+}
+
+/// A message on its way: which pieces are still to come, which are held, and the second of the first that was sent.
 struct Sending {
     message: Whole,
     left: Vec<usize>,
     held: Vec<bool>,
+    opened: Option<u64>,
 }
 
 impl Sending {
@@ -194,7 +224,7 @@ impl Sending {
             1 => (),
             _ => random.shuffle(&mut left),
         }
-        Self { message, left, held: vec![false; n] }
+        Self { message, left, held: vec![false; n], opened: None }
     }
 
     /// The next piece to send; now and then one that is held.
@@ -215,37 +245,94 @@ fn send(both: &mut Both, tally: &mut Tally, m: &Whole, number: usize, held: bool
     rust.number() == 60
 }
 
-/// Up to 16 messages at once, their pieces in any order between each other, new messages as others finish.
+/// Sends a piece of a remembered id to the library alone: 57.
+fn send_late(both: &mut Both, tally: &mut Tally, m: &Whole, number: usize, second: u64) {
+    let ours = both.ours(m, number, second);
+    tally.compare(57, &Answer::Refused(57), &ours, || format!("id {} piece {number} of {}, remembered", m.id, m.pieces.len()));
+}
+
+/// Up to 16 messages at once, their pieces in any order between each other, new messages as others finish; late repeats.
+struct Schedule<'a> {
+    both: &'a mut Both,
+    random: &'a mut Random,
+    tally: &'a mut Tally,
+    open: Vec<Sending>,
+    finished: Finished,
+    second: u64,
+}
+
+impl Schedule<'_> {
+    /// Begins another message; where its id is remembered, its first piece goes to the library alone.
+    fn begin(&mut self) {
+        let fixed = self.random.once_in(4);
+        let id = if fixed { self.random.pick(&[0, 1, 2, u32::MAX]) } else { self.random.next() as u32 };
+        if self.open.iter().any(|s| s.message.id == id) {
+            return;
+        }
+        let begun = Sending::new(self.random, id);
+        if self.finished.holds(id) {
+            return send_late(self.both, self.tally, &begun.message, 0, self.second);
+        }
+        self.open.push(begun);
+    }
+
+    /// A piece of a remembered message once more.
+    fn repeat(&mut self) {
+        let (m, _) = &self.finished.0[self.random.below(self.finished.0.len())];
+        send_late(self.both, self.tally, m, self.random.below(m.pieces.len()), self.second);
+    }
+
+    /// A sweep of the library's store where it drops no open message, for the Rust drops none either.
+    fn sweep(&mut self) {
+        let young = |s: &Sending| s.opened.map_or(true, |at| self.second < at + LAPSE);
+        if self.open.iter().all(young) {
+            self.both.ours.sweep(self.second);
+            self.finished.sweep(self.second);
+        }
+    }
+
+    /// One piece of an open message to both sides; false where it finishes on one side alone.
+    fn piece(&mut self) -> bool {
+        let which = self.random.below(self.open.len());
+        let s = &mut self.open[which];
+        let number = s.next(self.random);
+        let held = s.held[number];
+        s.held[number] = true;
+        s.opened = s.opened.or(Some(self.second));
+        let all = s.held.iter().all(|h| *h);
+        if send(self.both, self.tally, &s.message, number, held, self.second) != all {
+            return false;
+        }
+        if all {
+            self.finished.add(self.open.swap_remove(which).message, self.second);
+        }
+        true
+    }
+}
+
 fn schedule(both: &mut Both, random: &mut Random, tally: &mut Tally) {
     both.renew();
     both.in_payloads = random.once_in(2);
     let most = random.pick(&[1, 2, 5, OPEN, OPEN]);
-    let mut open: Vec<Sending> = Vec::new();
+    let mut s = Schedule { both, random, tally, open: Vec::new(), finished: Finished::default(), second: 0 };
     for step in 0..500 {
-        if open.len() < most && (open.is_empty() || random.once_in(3)) {
-            let id = if random.once_in(4) { random.pick(&[0, 1, 2, u32::MAX]) } else { random.next() as u32 };
-            if open.iter().all(|s| s.message.id != id) {
-                open.push(Sending::new(random, id));
-            }
+        s.second = step / 4;
+        if s.random.once_in(20) {
+            s.sweep();
         }
-        let which = random.below(open.len());
-        let s = &mut open[which];
-        let number = s.next(random);
-        let held = s.held[number];
-        s.held[number] = true;
-        if !tally.wants() {
+        if s.open.len() < most && (s.open.is_empty() || s.random.once_in(3)) {
+            s.begin();
+        }
+        if !s.finished.0.is_empty() && s.random.once_in(12) {
+            s.repeat();
+        }
+        if !s.tally.wants() || !s.open.is_empty() && !s.piece() {
             return;
-        }
-        if send(both, tally, &s.message, number, held, step) != s.held.iter().all(|h| *h) {
-            return;
-        }
-        if s.held.iter().all(|h| *h) {
-            open.swap_remove(which);
         }
     }
 }
 
-/// Every order of the pieces of a short message, each piece once more at every place where it is held.
+/// Every order of the pieces of a short message, each piece once more at every place where it is held, and after the end.
 fn orders(both: &mut Both, random: &mut Random, tally: &mut Tally, count: usize) {
     let mut m = whole(random, 7);
     m.pieces = (0..count).map(|i| vec![i as u8; i + 1]).collect();
@@ -259,6 +346,7 @@ fn orders(both: &mut Both, random: &mut Random, tally: &mut Tally, count: usize)
                     send(both, tally, &m, order[again], true, 0);
                 }
             }
+            send_late(both, tally, &m, order[again], 0);
         }
     });
 }
@@ -282,5 +370,5 @@ pub fn compare(seed: u64, count: u64) -> (u64, u64) {
     while tally.wants() {
         schedule(&mut both, &mut random, &mut tally);
     }
-    tally.close(&[0, 54, 60])
+    tally.close(&[0, 54, 57, 60])
 }

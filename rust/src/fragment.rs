@@ -3,7 +3,7 @@
 use crate::{ffi, Refusal, RefusedAt};
 
 /// The bytes of a store's record.
-pub const RECORD: usize = 8_576;
+pub const RECORD: usize = 9_345;
 
 /// The bytes of a store's room.
 pub const ROOM: usize = 1_048_560;
@@ -78,15 +78,16 @@ pub struct FragmentStorage<B = [u8; STORAGE]> {
 }
 
 impl FragmentStorage {
-    /// Storage with no message open, for a static. These are 1,122,671 bytes: more than a thread's stack may have
-    /// left.
+    /// Storage with no message open and none remembered, for a static. These are 1,123,440 bytes: more than a thread's
+    /// stack may have left.
     pub const fn new() -> Self {
         FragmentStorage { bytes: [0; STORAGE] }
     }
 }
 
 impl<B: AsMut<[u8]>> FragmentStorage<B> {
-    /// Storage over bytes of your own, with no message open. Refuses less than [`STORAGE`] of them (59).
+    /// Storage over bytes of your own, with no message open and none remembered. Refuses less than [`STORAGE`] of them
+    /// (59).
     pub fn over(mut bytes: B) -> Result<Self, Refusal> {
         if bytes.as_mut().len() < STORAGE {
             return Err(Refusal::LentShort);
@@ -116,6 +117,12 @@ impl Default for FragmentStorage {
 /// A piece comes with the present second. [`FragmentHandler::sweep`] drops what was opened 30 seconds
 /// ago or more.
 ///
+/// The ids of finished messages are remembered, 64 at most. Every piece of a remembered id is refused
+/// with 57: the far end sends a piece again when an acknowledgement was lost, and the message was
+/// delivered already. Drop such a piece, and acknowledge its packet as usual. A sweep forgets what was
+/// finished 30 seconds ago or more; where 64 are remembered, the next finished message pushes out the
+/// one that was finished first. Nothing else forgets an id, so sweep regularly.
+///
 /// ```
 /// use strawhub::{FragmentStorage, Refusal, STORAGE};
 ///
@@ -127,6 +134,10 @@ impl Default for FragmentStorage {
 /// assert_eq!(handler.follow_on_fragment(7, 5, false, 100, b"f"), Err(Refusal::PieceConflict));
 /// let letter = handler.follow_on_fragment(7, 1, false, 100, b"b")?.unwrap();
 /// assert_eq!(letter.payload, b"abc");
+///
+/// // the acknowledgement was lost, and a piece comes again: it opens nothing, and no letter comes twice
+/// let late = handler.follow_on_fragment(7, 1, false, 105, b"b");
+/// assert_eq!(late, Err(Refusal::AlreadyFinished));
 /// # Ok::<(), Refusal>(())
 /// ```
 pub struct FragmentHandler<'a> {
@@ -136,8 +147,9 @@ pub struct FragmentHandler<'a> {
 }
 
 impl<'a> FragmentHandler<'a> {
-    /// An empty handler over lent bytes: a record of [`RECORD`], a room of [`ROOM`], and an assembly
-    /// buffer, which is always long enough with [`MESSAGE`]. Refuses a short record or room (59).
+    /// An empty handler over lent bytes, with no message open and none remembered: a record of [`RECORD`],
+    /// a room of [`ROOM`], and an assembly buffer, which is always long enough with [`MESSAGE`]. Refuses a
+    /// short record or room (59).
     ///
     /// ```
     /// use strawhub::{FragmentHandler, Refusal, MESSAGE, RECORD, ROOM};
@@ -169,7 +181,7 @@ impl<'a> FragmentHandler<'a> {
 
     /// A first piece came. Gives the message if no other was missing.
     ///
-    /// Refuses with 50 or 52 to 56.
+    /// Refuses with the first that holds of 50, 57, 54, 55, 52, 53, 56.
     pub fn first_fragment(
         &mut self,
         message_type: u8,
@@ -184,7 +196,7 @@ impl<'a> FragmentHandler<'a> {
 
     /// A follow-on piece came. Gives the message if no other was missing.
     ///
-    /// Refuses with 50 to 56.
+    /// Refuses with the first that holds of 50, 51, 57, 54, 55, 52, 53, 56.
     pub fn follow_on_fragment(
         &mut self,
         message_id: u32,
@@ -197,13 +209,31 @@ impl<'a> FragmentHandler<'a> {
         self.finished(message_id, reply)
     }
 
-    /// Drops exactly the messages whose opening piece came 30 seconds before this one or earlier.
+    /// Drops exactly the open messages whose opening piece came 30 seconds before this second or earlier,
+    /// and forgets exactly the finished ones whose finishing piece did.
+    ///
+    /// ```
+    /// use strawhub::{FragmentStorage, Refusal, STORAGE};
+    ///
+    /// let mut storage = FragmentStorage::over(vec![0; STORAGE])?;
+    /// let mut handler = storage.handler();
+    /// handler.first_fragment(20, 7, 9, 100, b"ab")?;
+    /// assert!(handler.follow_on_fragment(7, 1, true, 110, b"cd")?.is_some());
+    ///
+    /// // finished at 110: remembered by a sweep at 139, forgotten by one at 140
+    /// handler.sweep(139);
+    /// assert_eq!(handler.first_fragment(20, 7, 9, 139, b"ab"), Err(Refusal::AlreadyFinished));
+    /// handler.sweep(140);
+    /// assert_eq!(handler.first_fragment(20, 7, 9, 140, b"ab"), Ok(None));
+    /// # Ok::<(), Refusal>(())
+    /// ```
     pub fn sweep(&mut self, second: u64) {
         ffi::store_sweep(self.record, second);
     }
 
     /// What the block at a place of a payload delivers. Refuses as [`Block::read`] does, or as the
-    /// store refuses the piece that the block has; the place of both is the block's.
+    /// store refuses the piece that the block has; the place of both is the block's. A whole message
+    /// passes no store: its id is not remembered, and it is never refused with 57.
     ///
     /// [`Block::read`]: crate::Block::read
     ///

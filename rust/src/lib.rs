@@ -7,7 +7,7 @@
 //! - [`HeaderReader`] unmasks and reads a packet's header, [`HeaderKind::write`] writes one.
 //! - [`Block`] reads and writes a block, [`blocks`] walks a payload, [`list_blocks`] lists it.
 //! - [`RemoteAckManager`] keeps the packet numbers that came and acknowledges them.
-//! - [`FragmentHandler`] puts the pieces of I2NP messages together.
+//! - [`FragmentHandler`] puts the pieces of I2NP messages together, and refuses late repeats of finished ones.
 //!
 //! A call that cannot do what it was asked gives a [`Refusal`], and then no state and no lent byte
 //! has changed.

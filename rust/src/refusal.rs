@@ -77,6 +77,7 @@ refusals! {
     PieceAgain = 54, "the piece is held already and repeats it exactly";
     PieceConflict = 55, "the piece contradicts the pieces that are held";
     BufferShort = 56, "the message would be finished, but the assembly buffer is too short";
+    AlreadyFinished = 57, "the message was finished already and its id is still remembered";
     LentShort = 59, "the lent room or record is too short, or the record names bytes outside the room";
 }
 

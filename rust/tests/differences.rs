@@ -348,6 +348,26 @@ mod reassembly {
     }
 
     #[test]
+    fn sent_again() {
+        let mut lent = Lent::new();
+        lent.keeps(first(1, b"\x0a"));
+        assert_eq!(lent.finishes(next(1, 1, true, b"\x0b"), 2), b"\x0a\x0b");
+        assert_eq!(lent.refuses(first(1, b"\x0a")), 57);
+        assert_eq!(lent.refuses(next(1, 1, true, b"\x0b")), 57);
+        assert!(lent.is_empty());
+    }
+
+    #[test]
+    fn late_piece_and_a_new_first() {
+        let mut lent = Lent::new();
+        lent.keeps(first(1, b"\x0a"));
+        assert_eq!(lent.finishes(next(1, 1, true, b"\x0b"), 2), b"\x0a\x0b");
+        assert_eq!(lent.refuses(next(1, 1, true, b"\x0b")), 57);
+        assert_eq!(lent.refuses(first(1, b"\x0c")), 57);
+        assert!(lent.is_empty());
+    }
+
+    #[test]
     fn swept() {
         let mut lent = Lent::new();
         lent.keeps(first(1, b"a"));

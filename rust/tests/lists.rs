@@ -220,5 +220,5 @@ fn pieces_are_answered_as_the_model_does() {
         assert_eq!(said, words[8..], "{line}");
         calls += 1;
     }
-    assert_eq!(calls, 1_839);
+    assert_eq!(calls, 3_253);
 }

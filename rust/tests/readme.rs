@@ -28,12 +28,12 @@ impl Session {
     {
         self.acks.register_pkt(pkt_num)?; // 42, 43: late or a repeat, and not read
         let mut handler = self.storage.handler();
-        handler.sweep(now); // messages that were opened 30 seconds ago make room
+        handler.sweep(now); // drops messages opened 30 seconds ago, forgets those finished 30 seconds ago
         for block in blocks(payload) {
             let (place, _) = block.map_err(|refused| refused.refusal)?;
             match handler.deliver(payload, place, now) {
                 Ok(delivered) => delivered.message().into_iter().for_each(&mut arrived),
-                Err(refused) => eprintln!("{}: {refused}", refused.number()), // a repeat, say; the rest is still read
+                Err(refused) => eprintln!("{}: {refused}", refused.number()), // 54, 57: a repeat; the rest is still read
             }
         }
         Ok(())

@@ -156,6 +156,7 @@ fn of_stores() -> Vec<u8> {
     found.push(short.refuses(first(2, b"a")));
     short.assembly.push(7);
     assert_eq!(short.finishes(first(2, b"a"), 2), b"az");
+    found.push(short.refuses(next(2, 1, true, b"z")));
     found
 }
 
@@ -164,7 +165,8 @@ fn of_short_bytes() -> Vec<u8> {
     assert_eq!(FragmentStorage::over(&mut bytes[1..]).err(), Some(Refusal::LentShort));
     assert!(bytes.iter().all(|&byte| byte == 9));
     assert!(FragmentStorage::over(bytes).unwrap().handler().first_fragment(20, 1, 2, NOW, b"a").is_ok());
-    [(RECORD - 1, ROOM), (RECORD, ROOM - 1)]
+    // a byte short, and the length that a record had before finished messages were remembered
+    [(RECORD - 1, ROOM), (8_576, ROOM), (RECORD, ROOM - 1)]
         .map(|(record, room)| {
             let (mut record, mut room, mut assembly) = (vec![9; record], vec![9; room], vec![9; MESSAGE]);
             let refusal = FragmentHandler::new(&mut record, &mut room, &mut assembly).err().unwrap();
@@ -186,6 +188,39 @@ fn a_record_that_names_bytes_outside_is_refused() {
 }
 
 #[test]
+fn a_remembered_id_is_refused_after_50_and_51_and_before_the_rest() {
+    let mut lent = Lent::new();
+    lent.keeps(first(7, b"a"));
+    assert_eq!(lent.finishes(next(7, 1, true, b"b"), 2), b"ab");
+    let asked = |lent: &mut Lent| {
+        assert_eq!(lent.refuses(first(7, b"")), 50);
+        assert_eq!(lent.refuses(next(7, 0, true, b"b")), 51);
+        assert_eq!(lent.refuses(next(7, 1, true, b"b")), 57); // an exact repeat
+        assert_eq!(lent.refuses(next(7, 1, true, b"c")), 57); // other bytes
+        assert_eq!(lent.refuses(next(7, 9, false, b"c")), 57); // a number that the message did not have
+        assert_eq!(lent.refuses(first(7, b"a")), 57);
+    };
+    asked(&mut lent);
+    (100..116).for_each(|id| lent.keeps(first(id, b"a")));
+    assert_eq!(lent.refuses(first(8, b"a")), 52);
+    asked(&mut lent);
+}
+
+#[test]
+fn a_65th_finished_message_pushes_out_the_first() {
+    let mut lent = Lent::new();
+    let finish = |lent: &mut Lent, id| {
+        lent.keeps(first(id, b"a"));
+        assert_eq!(lent.finishes(next(id, 1, true, b"b"), 2), b"ab");
+    };
+    (0..64).for_each(|id| finish(&mut lent, id));
+    assert!((0..64).all(|id| lent.refuses(first(id, b"a")) == 57));
+    finish(&mut lent, 64);
+    assert!((1..65).all(|id| lent.refuses(first(id, b"a")) == 57));
+    lent.keeps(first(0, b"a"));
+}
+
+#[test]
 fn every_refusal_is_given_and_changes_nothing() {
     let found = [of_blocks(), of_headers(), of_writing(), of_acks(), of_stores(), of_short_bytes()].concat();
     let found: BTreeSet<u8> = found.into_iter().collect();
@@ -200,5 +235,5 @@ fn a_refusal_has_its_number_and_a_sentence_of_its_own() {
     for &refusal in Refusal::ALL {
         assert_eq!(Refusal::from_number(refusal.number().into()), Some(refusal));
     }
-    assert!([0, 11, 45, 57, 58, 60, 256 + 1].into_iter().all(|number| Refusal::from_number(number).is_none()));
+    assert!([0, 11, 45, 58, 60, 256 + 1].into_iter().all(|number| Refusal::from_number(number).is_none()));
 }

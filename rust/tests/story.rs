@@ -47,6 +47,29 @@ fn the_other_letters_piece_changes_nothing() {
     assert_eq!(lent.refuses(common::next(ID, 5, false, &page(5))), 55);
 }
 
+/// The acknowledgement was lost, and the far end sends the whole letter again.
+#[test]
+fn a_letter_that_comes_again_opens_nothing() {
+    let mut lent = Lent::new();
+    lent.keeps(common::first(ID, &page(0)));
+    lent.keeps(common::next(ID, 2, true, &page(2)));
+    assert_eq!(lent.finishes(common::next(ID, 1, false, &page(1)), letter().len()), letter());
+
+    let again = |lent: &mut Lent| {
+        assert_eq!(lent.refuses(common::next(ID, 1, false, &page(1))), 57);
+        assert_eq!(lent.refuses(common::next(ID, 2, true, &page(2))), 57);
+        assert_eq!(lent.refuses(common::first(ID, &page(0))), 57);
+    };
+    again(&mut lent);
+    assert!(lent.is_empty());
+
+    // it is remembered for 30 seconds, and then the id can be used again
+    lent.handler().sweep(NOW + 29);
+    again(&mut lent);
+    lent.handler().sweep(NOW + 30);
+    lent.keeps(common::first(ID, &page(0)));
+}
+
 /// The same over the wire: the pieces as blocks of one payload, in every order that ends with piece 1.
 #[test]
 fn the_story_as_blocks_of_a_payload() {

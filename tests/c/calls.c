@@ -400,6 +400,204 @@ static void store_sweep(void)
 	CHECK(first_of(7, "b", 1).number == 0);
 }
 
+/* ---- late repeats: the readings of document 02 by their numbers, 5.11 below at block_deliver ---- */
+
+/* A piece of one byte at a second, number 0 as a first piece, with so many bytes of assembly buffer. */
+static uint8_t piece_to(size_t buffer, uint32_t id, uint8_t number, uint64_t second)
+{
+	uint8_t byte = (uint8_t)('a' + number);
+	if (number == 0)
+		return strawhub_store_first(store.record, sizeof store.record, store.room, sizeof store.room, store.out, buffer,
+		                            id, 20, 9, second, &byte, 1).number;
+	return strawhub_store_follow_on(store.record, sizeof store.record, store.room, sizeof store.room, store.out, buffer,
+	                                id, number, number == 1, second, &byte, 1).number;
+}
+
+/* A message has two pieces: number 1 is the last. */
+static uint8_t piece(uint32_t id, uint8_t number, uint64_t second)
+{
+	return piece_to(sizeof store.out, id, number, second);
+}
+
+static int finishes(uint32_t id, uint64_t second)
+{
+	return piece(id, 0, second) == 0 && piece(id, 1, second) == STRAWHUB_FINISHED;
+}
+
+/* Whether a piece is refused as one of a finished message, and every lent byte stays. */
+static int late(uint32_t id, uint8_t number, uint64_t second)
+{
+	copy = store;
+	return piece(id, number, second) == STRAWHUB_ALREADY_FINISHED && unchanged();
+}
+
+static void sweep(uint64_t second)
+{
+	CHECK(strawhub_store_sweep(store.record, sizeof store.record, second) == 0);
+}
+
+/* 5.1: 50 and 51 come first, then 57, whatever the piece is and however many are open. */
+static void late_order(void)
+{
+	uint32_t id;
+	store_new();
+	CHECK(finishes(7, 0));
+	CHECK(late(7, 1, 0) && late(7, 0, 0) && late(7, 9, 0) && late(7, 127, 0));
+	CHECK(next_of(7, 1, 1, "other", 5).number == 57 && unchanged());
+	CHECK(next_of(7, 0, 1, "a", 1).number == 51 && unchanged());
+	CHECK(next_of(7, 128, 1, "a", 1).number == 51 && unchanged());
+	CHECK(next_of(7, 1, 1, "a", 0).number == 50 && unchanged());
+	CHECK(first_of(7, "a", 0).number == 50 && unchanged());
+	for (id = 100; id < 116; id++)
+		CHECK(piece(id, 0, 0) == 0);
+	CHECK(late(7, 1, 0) && late(7, 0, 0));
+	CHECK(piece(8, 0, 0) == 52 && unchanged());
+	CHECK(late(7, 1, 0) && piece_to(0, 7, 1, 0) == 57 && unchanged());
+}
+
+/* 5.2, 5.3, 5.9: only a sweep finds an id due, by the second of the finishing piece, which a 57 does not refresh. */
+static void late_due(void)
+{
+	store_new();
+	CHECK(finishes(7, 0));
+	CHECK(late(7, 1, 99));
+	store_new();
+	CHECK(piece(7, 0, 0) == 0 && piece(7, 1, 20) == STRAWHUB_FINISHED);
+	sweep(30);
+	CHECK(late(7, 0, 30));
+	sweep(49);
+	CHECK(late(7, 0, 49));
+	sweep(50);
+	CHECK(piece(7, 0, 50) == 0);
+	store_new();
+	CHECK(finishes(7, 0));
+	CHECK(late(7, 0, 29));
+	sweep(30);
+	CHECK(piece(7, 0, 30) == 0);
+}
+
+/* 5.13: nothing wraps at the finishing second + 30; an id finished later than the sweep stays. */
+static void late_seconds(void)
+{
+	store_new();
+	CHECK(finishes(7, UINT64_MAX) && finishes(8, UINT64_MAX - 29) && finishes(9, UINT64_MAX - 30));
+	sweep(0);
+	sweep(29);
+	sweep(30);
+	CHECK(late(7, 0, 0) && late(8, 0, 0) && late(9, 0, 0));
+	sweep(UINT64_MAX - 1);
+	CHECK(late(9, 0, 0));
+	sweep(UINT64_MAX);
+	CHECK(late(7, 0, 0) && late(8, 0, 0) && piece(9, 0, 0) == 0);
+}
+
+/* 5.4, 5.10: a 65th pushes out the first finished in the order of the calls, due or not. */
+static void late_pushed(void)
+{
+	uint32_t id;
+	store_new();
+	for (id = 0; id < 64; id++)
+		CHECK(finishes(id, id == 1 ? 5 : 10));
+	for (id = 0; id < 64; id++)
+		CHECK(late(id, 0, 10));
+	CHECK(finishes(64, 10));
+	for (id = 1; id < 65; id++)
+		CHECK(late(id, 1, 10));
+	CHECK(piece(0, 0, 10) == 0);
+	store_new();
+	for (id = 0; id < 64; id++)
+		CHECK(finishes(id, 0));
+	CHECK(finishes(64, 99));
+	CHECK(late(1, 0, 99) && late(64, 0, 99) && piece(0, 0, 99) == 0);
+}
+
+/* 5.5: a push counts remembered ids; those that a sweep forgot leave no gap, and the others keep their order. */
+static void late_forgotten(void)
+{
+	uint32_t id;
+	store_new();
+	CHECK(finishes(0, 100));
+	for (id = 1; id < 64; id++)
+		CHECK(finishes(id, 0));
+	sweep(30);
+	CHECK(finishes(64, 30) && late(0, 0, 30) && piece(1, 0, 30) == 0);
+	store_new();
+	CHECK(finishes(0, 100));
+	for (id = 1; id < 64; id++)
+		CHECK(finishes(id, id % 21 == 0 ? 40 : 0));
+	sweep(30);
+	CHECK(late(0, 0, 30) && late(21, 0, 30) && late(42, 0, 30) && late(63, 0, 30));
+	for (id = 64; id < 124; id++)
+		CHECK(finishes(id, 30)); /* 64 are remembered: 0, 21, 42, 63 and these */
+	CHECK(late(0, 0, 30) && finishes(124, 30));
+	CHECK(late(21, 0, 30) && piece(0, 0, 30) == 0 && finishes(125, 30));
+	CHECK(late(42, 0, 30) && late(63, 0, 30) && late(64, 0, 30) && piece(21, 0, 30) == 0);
+}
+
+/* 5.6, 5.7, 5.8: what a sweep dropped or a 56 left open is not remembered; zeros remember nothing, id 0 neither. */
+static void late_unfinished(void)
+{
+	store_new();
+	CHECK(piece(7, 0, 0) == 0);
+	sweep(30);
+	CHECK(piece(7, 0, 30) == 0);
+	store_new();
+	CHECK(piece(3, 0, 0) == 0);
+	copy = store;
+	CHECK(piece_to(1, 3, 1, 0) == 56 && unchanged());
+	CHECK(piece(3, 0, 0) == 54 && unchanged());
+	CHECK(piece_to(2, 3, 1, 0) == STRAWHUB_FINISHED && late(3, 0, 0));
+	memset(store.record, 0, sizeof store.record);
+	CHECK(finishes(0, 0) && late(0, 0, 0) && late(0, 1, 0));
+}
+
+/* A remembered id is all of its 32 bits: none that differs in one of them is refused. */
+static void late_ids(void)
+{
+	int bit;
+	store_new();
+	CHECK(finishes(7, 0));
+	for (bit = 0; bit < 32; bit++) {
+		copy = store;
+		CHECK(piece(7 ^ (uint32_t)1 << bit, 0, 0) == 0);
+		store = copy;
+	}
+	CHECK(late(7, 0, 0));
+}
+
+/* 5.14, 5.15: repeats between the pieces of another message; at the end none is open, and both are remembered. */
+static void late_between(void)
+{
+	uint32_t id;
+	store_new();
+	CHECK(finishes(7, 0) && late(7, 0, 0) && piece(8, 0, 0) == 0);
+	CHECK(late(7, 1, 0) && piece(8, 1, 0) == STRAWHUB_FINISHED);
+	for (id = 100; id < 116; id++)
+		CHECK(piece(id, 0, 0) == 0);
+	CHECK(piece(116, 0, 0) == 52 && late(7, 0, 0) && late(8, 1, 0));
+}
+
+/* 5.12: a record of the base's length, 8,576, or of one byte too few is a 59 for every call, and nothing changes. */
+static void late_record(void)
+{
+	static const size_t lengths[] = {8576, STRAWHUB_RECORD - 1};
+	const uint8_t byte = 'a';
+	size_t i;
+	CHECK(STRAWHUB_RECORD == 9345);
+	store_new();
+	CHECK(finishes(7, 0) && piece(8, 0, 0) == 0);
+	copy = store;
+	for (i = 0; i < 2; i++) {
+		size_t n = lengths[i];
+		CHECK(strawhub_store_new(store.record, n) == 59 && unchanged());
+		CHECK(strawhub_store_first(store.record, n, store.room, STRAWHUB_ROOM, store.out, 9, 7, 20, 9, 0, &byte, 1)
+		          .number == 59);
+		CHECK(strawhub_store_follow_on(store.record, n, store.room, STRAWHUB_ROOM, store.out, 9, 8, 1, 1, 0, &byte, 1)
+		          .number == 59);
+		CHECK(strawhub_store_sweep(store.record, n, 99) == 0 && unchanged());
+	}
+}
+
 static struct strawhub_outcome deliver(const uint8_t *block, size_t length, size_t at, uint64_t told[6])
 {
 	return strawhub_block_deliver(block, length, at, store.record, sizeof store.record, store.room, sizeof store.room,
@@ -432,6 +630,26 @@ static void block_deliver(void)
 	CHECK(memcmp(told, rebuilt, sizeof told) == 0 && memcmp(store.out, "abcd", 4) == 0);
 }
 
+/* A late repeat as a block is refused at its place. 5.11: a whole message under its id is delivered all the same. */
+static void block_deliver_late(void)
+{
+	static const uint8_t last[] = {15, 0, 0, 5, 0, 7, 3, 0, 0, 0, 7, 'c', 'd'};
+	static const uint8_t whole[] = {3, 0, 11, 11, 0, 0, 0, 7, 0, 0, 0, 6, 'h', 'i'};
+	static const uint64_t in_payload[6] = {1, 11, 7, 6, 12, 2};
+	uint64_t told[6];
+	store_new();
+	CHECK(deliver(whole, sizeof whole, 0, told).number == 0);
+	CHECK(deliver(payload, sizeof payload, 16, told).number == 0);
+	CHECK(deliver(last, sizeof last, 3, told).number == STRAWHUB_FINISHED);
+	copy = store;
+	memset(told, 0x77, sizeof told);
+	CHECK(is(deliver(last, sizeof last, 3, told), 57, 3));
+	CHECK(is(deliver(payload, sizeof payload, 16, told), 57, 16));
+	CHECK(all(told, sizeof told, 0x77) && unchanged());
+	CHECK(deliver(whole, sizeof whole, 0, told).number == 0);
+	CHECK(memcmp(told, in_payload, sizeof told) == 0 && unchanged());
+}
+
 int main(void)
 {
 	keystream();
@@ -449,7 +667,17 @@ int main(void)
 	store_long();
 	store_outside();
 	store_sweep();
+	late_order();
+	late_due();
+	late_seconds();
+	late_pushed();
+	late_forgotten();
+	late_unfinished();
+	late_ids();
+	late_between();
+	late_record();
 	block_deliver();
+	block_deliver_late();
 	printf("calls: %u passed, %u failed\n", passed, failed);
 	return failed != 0;
 }

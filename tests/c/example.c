@@ -5,11 +5,12 @@
 
 static uint8_t record[STRAWHUB_RECORD], room[STRAWHUB_ROOM], message[STRAWHUB_MESSAGE]; /* all zero: empty */
 
-/* DateTime, then pieces 0, 2 (the last), 5 (of another letter) and 1 of message 7. */
+/* DateTime, then pieces 0, 2 (the last), 5 (of another letter) and 1 of message 7; then piece 1 again, too late. */
 static const uint8_t payload[] = "\x00\x00\x04\x65\x53\xf1\x00"
                                  "\x04\x00\x0e\x14\x00\x00\x00\x07\x65\x54\x00\x00hello"
                                  "\x05\x00\x0b\x05\x00\x00\x00\x07world!"
                                  "\x05\x00\x0a\x0a\x00\x00\x00\x07stray"
+                                 "\x05\x00\x07\x02\x00\x00\x00\x07, "
                                  "\x05\x00\x07\x02\x00\x00\x00\x07, ";
 
 int main(void)

@@ -81,7 +81,7 @@ struct fence {
 static struct fence packet = {.size = 1600}, key1 = {.size = 32}, key2 = {.size = 32}, nonce = {.size = 12};
 static struct fence numbers = {.size = 96}, fields = {.size = 64}, payload = {.size = 70000}, bytes = {.size = 70000};
 static struct fence list = {.size = 16 * 700}, room = {.size = 70000}, pairs = {.size = 300};
-static struct fence tracker = {.size = 400}, record = {.size = 9000}, out = {.size = 65600};
+static struct fence tracker = {.size = 400}, record = {.size = STRAWHUB_RECORD + 400}, out = {.size = 65600};
 static struct fence *const fences[] = {&packet, &key1, &key2,  &nonce,   &numbers, &fields, &payload,
                                        &bytes,  &list, &room, &pairs, &tracker, &record,  &out};
 
@@ -336,15 +336,36 @@ static void put(uint8_t *at, unsigned width, uint64_t x)
 	}
 }
 
-/* Messages are told by their id: how many pieces, how long each is. Some are longer than a message may be. */
+/* Messages are told by their id: how many pieces, how long each is. Some are longer than a message may be. 22 are on
+ * their way at a time; when one is finished, another of the same shape takes its place, and its pieces still come. */
+#define ON_THEIR_WAY 22
+#define SHAPES 40 /* ids that are so far apart have the same shape */
+#define DONE 80   /* more than a store remembers */
+
+static uint32_t rounds[ON_THEIR_WAY], done[DONE];
+static size_t dones;
+
 static uint32_t any_id(void)
 {
-	return (uint32_t)below(22);
+	uint32_t i = (uint32_t)below(ON_THEIR_WAY);
+	if (dones && one_in(20)) {
+		size_t newest = one_in(50) ? DONE : 9; /* rarely one that may be forgotten */
+		return done[(dones - 1 - below(dones < newest ? dones : newest)) % DONE];
+	}
+	return i + SHAPES * rounds[i];
+}
+
+static void is_finished(uint32_t id)
+{
+	uint32_t i = id % SHAPES;
+	done[dones++ % DONE] = id;
+	if (i < ON_THEIR_WAY && id / SHAPES == rounds[i])
+		rounds[i]++;
 }
 
 static uint8_t last_of(uint32_t id)
 {
-	return (uint8_t)(id % 5 == 0 ? 50 : 1 + id % 4);
+	return (uint8_t)(id % 5 == 0 ? 60 : 1 + id % 4);
 }
 
 static uint8_t any_piece(uint32_t id)
@@ -680,24 +701,52 @@ static int room_first; /* the room stands flush against the page before it */
 static uint8_t *room_at;
 static size_t room_length;
 
+#define MEMORY 8576 /* where the memory of finished messages begins */
+
+static int forged; /* since the last new store */
+
+/* 60 to 64 messages, finished in the last 40 seconds, as calls would have left them. */
+static void remember_many(void)
+{
+	uint8_t *at = record_now + MEMORY;
+	size_t n = 60 + below(5), k, i;
+	for (k = 0; k < n; k++) {
+		uint64_t second = second_now - below(40);
+		at[4 * k] = (uint8_t)k;
+		at[4 * k + 3] = 0x80; /* above every id that any_id gives */
+		for (i = 0; i < 8; i++)
+			at[64 * 4 + 8 * k + i] = (uint8_t)(second >> 8 * i);
+	}
+	record_now[sizeof record_now - 1] = (uint8_t)n;
+}
+
 static void forge_record(void)
 {
-	if (one_in(15000))
+	int all_bytes = one_in(15000), some = one_in(4000), heads = one_in(4000), memory = one_in(4000);
+	if (all_bytes)
 		any_bytes(record_now, sizeof record_now);
-	if (one_in(4000))
+	if (some)
 		mutate(record_now, sizeof record_now);
-	if (one_in(4000))
-		mutate(record_now, 16 * 24); /* the heads */
+	if (heads)
+		mutate(record_now, 16 * 24);
+	if (memory)
+		mutate(record_now + MEMORY, sizeof record_now - MEMORY);
+	if (memory && one_in(2))
+		record_now[sizeof record_now - 1] = (uint8_t)any(); /* how many are remembered */
+	forged = forged || all_bytes || some || heads || memory;
+	if (one_in(4000) && !forged)
+		remember_many();
 	if (one_in(10000)) {
 		memset(record_now, 0, sizeof record_now);
 		room_first = !room_first;
+		forged = 0;
 	}
 }
 
 /* The store as the last call left it, at times forged, at times short or longer than it has to be. */
 static uint8_t *lend_record(void)
 {
-	size_t n = one_in(80) ? below(9001) : STRAWHUB_RECORD;
+	size_t n = one_in(80) ? below(STRAWHUB_RECORD + 401) : STRAWHUB_RECORD;
 	uint8_t *at;
 	forge_record();
 	at = lend(&record, n, 1);
@@ -726,14 +775,27 @@ static uint8_t *lend_out(void)
 	return lend(&out, one_in(20) ? below(65601) : one_in(20) ? below(200) : STRAWHUB_MESSAGE, 1);
 }
 
-#define KEEPING " 0 50 51 52 53 54 55 56 59 60 "
+#define KEEPING " 0 50 51 52 53 54 55 56 57 59 60 "
 
-static void keep_reply(struct strawhub_reply r)
+/* A finished message is remembered: another piece of it is refused. */
+static void finished(uint32_t id)
+{
+	const uint8_t byte = 1;
+	is_finished(id);
+	if (forged) /* another slot may be open under this id */
+		return;
+	must(strawhub_store_first(record.at, record.n, room_at, room_length, out.at, out.n, id, 20, 0, second_now, &byte, 1)
+	             .number == STRAWHUB_ALREADY_FINISHED, "a finished message is not remembered");
+}
+
+static void keep_reply(struct strawhub_reply r, uint32_t id)
 {
 	must(may_answer(r.number, KEEPING), "another number");
 	answer(r.number);
 	keep_record();
 	stays(&out, r.number == STRAWHUB_FINISHED ? r.length : 0);
+	if (r.number == STRAWHUB_FINISHED)
+		finished(id);
 }
 
 static const uint8_t *lend_piece(uint32_t id, uint8_t number)
@@ -752,6 +814,8 @@ static void store_new(void)
 	must(may_answer(number, " 0 59 "), "another number");
 	answer(number);
 	keep_record();
+	if (number == 0)
+		forged = 0;
 }
 
 static void store_first(void)
@@ -761,7 +825,8 @@ static void store_first(void)
 	const uint8_t *b = lend_piece(id, 0);
 	lend_room();
 	copy_lent();
-	keep_reply(strawhub_store_first(at, record.n, room_at, room_length, o, out.n, id, 20, id * 3, second_now, b, bytes.n));
+	keep_reply(strawhub_store_first(at, record.n, room_at, room_length, o, out.n, id, 20, id * 3, second_now, b, bytes.n),
+	           id);
 }
 
 static void store_follow_on(void)
@@ -773,7 +838,8 @@ static void store_follow_on(void)
 	lend_room();
 	copy_lent();
 	keep_reply(strawhub_store_follow_on(at, record.n, room_at, room_length, o, out.n, id, number, last, second_now, b,
-	                                    bytes.n));
+	                                    bytes.n),
+	           id);
 }
 
 static void store_sweep(void)
@@ -807,6 +873,8 @@ static void block_deliver(void)
 	must(told[0] <= 2 && (told[0] == 2) == (r.number == STRAWHUB_FINISHED), "a message that stands nowhere");
 	must(told[0] != 1 || (told[4] <= payload.n && told[5] <= payload.n - told[4]), "a message outside the payload");
 	must(told[0] != 2 || told[4] == 0, "a rebuilt message that does not stand first");
+	if (told[0] == 2)
+		finished((uint32_t)told[2]);
 }
 
 /* ---- the run ---- */
@@ -857,7 +925,7 @@ static size_t any_call(void)
 static int every_number_came(void)
 {
 	static const uint8_t given[] = {0,  1,  2,  3,  4,  5,  6,  7,  8,  9,  10, 20, 21, 22, 23, 24, 25, 30,
-	                                31, 32, 40, 41, 42, 43, 44, 46, 50, 51, 52, 53, 54, 55, 56, 59, 60};
+	                                31, 32, 40, 41, 42, 43, 44, 46, 50, 51, 52, 53, 54, 55, 56, 57, 59, 60};
 	size_t i;
 	int whole = 1;
 	for (i = 0; i < sizeof given; i++) {

@@ -1,5 +1,6 @@
 """Document 01's twelve marked cases as calls: what the library says, beside the numbers of the document itself."""
 from lent import Lent, numbers
+from stores import RECORD, ROOM
 
 
 class Cases:
@@ -67,7 +68,7 @@ def acks(c):
 
 def pieces(c):
     """Case (l): pieces 0, 2 last, 5, 1."""
-    record, room, out = Lent(bytes(8576)), Lent(bytes(1048560)), Lent(bytes(9))
+    record, room, out = Lent(bytes(RECORD)), Lent(bytes(ROOM)), Lent(bytes(9))
     kept, said = (*record.slice(), *room.slice(), *out.slice()), []
     data = {n: Lent(text) for n, text in ((0, b"abc"), (1, b"def"), (2, b"ghi"), (5, b"jkl"))}
     said.append(c.calls.store_first(*kept, 77, 20, 900, 0, *data[0].slice()).number)

@@ -3,7 +3,7 @@ import messages_model as model
 from blocks import REFUSED, block, live, some_block
 from blocks_model import LISTED, listing
 from lent import Lent, numbers
-from stores import LATEST, MESSAGE, RECORD, ROOM, Pair
+from stores import BASE, LATEST, MESSAGE, RECORD, ROOM, Pair
 
 
 class Deliveries(Pair):
@@ -12,7 +12,9 @@ class Deliveries(Pair):
         lent, out, told = Lent(payload), Lent(self.noise[:size]), Lent(self.noise[:48])
         number, place, wanted, message = model.deliver(payload, at, self.model, second, size)
         got = self.calls.block_deliver(*lent.slice(), at, *self.record.slice(), *self.room.slice(), *out.slice(), second, told.address)
-        stands = self.state_stands(number) and lent.stays() and out.start_is(message or b"")
+        whole = wanted is not None and wanted[0] == 1
+        stands = self.record.stays() and self.room.stays() if whole else self.state_stands(number, wanted and wanted[2], second)
+        stands = stands and lent.stays() and out.start_is(message or b"") and self.remembers_as_the_model()
         stands = stands and (told.stays() if wanted is None else told.start_is(numbers(wanted)))
         self.judged((got.number, got.value), (number, place), stands, "block_deliver", self.told)
         return number
@@ -37,21 +39,28 @@ def hurt(rng, payload):
     return payload[:at] if rng.random() < 0.3 else payload[:at] + rng.randbytes(1) + payload[at + 1:]
 
 
+def some_payload(rng, messages, late):
+    """One to three blocks: fragments of messages on their way, at times of finished ones, and other blocks; at times hurt."""
+    blocks = []
+    for _ in range(rng.randrange(1, 4)):
+        ident, pieces = rng.choice(late if late and rng.random() < 0.15 else list(messages.items()))
+        blocks.append(fragment(ident, pieces, rng.randrange(len(pieces[1]))) if rng.random() < 0.8 else some_block(rng))
+    payload = b"".join(blocks)
+    return hurt(rng, payload) if rng.random() < 0.15 else payload
+
+
 def conversation(d, steps):
     """Payloads with fragments of a few messages, whole messages and other blocks, each block delivered; some hurt, some again."""
     rng, second = d.rng, 1000
-    messages = {rng.getrandbits(32): message(rng) for _ in range(rng.choice((3, 18)))}
+    messages, late = {rng.getrandbits(32): message(rng) for _ in range(rng.choice((3, 18)))}, []
     for _ in range(steps):
-        blocks = []
-        for _ in range(rng.randrange(1, 4)):
-            ident = rng.choice(list(messages))
-            blocks.append(fragment(ident, messages[ident], rng.randrange(len(messages[ident][1]))) if rng.random() < 0.8 else some_block(rng))
-        payload = b"".join(blocks)
-        payload = hurt(rng, payload) if rng.random() < 0.15 else payload
+        payload = some_payload(rng, messages, late)
         places = [found[0] for found in listing(payload, 99)[2]] or [0]
         for at in places + [rng.randrange(len(payload) + 2)]:
             if d.deliver(payload, at, second, rng.choice((MESSAGE, MESSAGE, 20, 0))) == 60:
-                messages = {i: m if i in d.model.open else message(rng) for i, m in messages.items()}
+                ident = d.model.finished[-1][0]
+                late = late[-69:] + [(ident, messages.pop(ident, None) or message(rng))]
+                messages[rng.getrandbits(32)] = message(rng)
         second += rng.choice((0, 0, 1))
         if rng.random() < 0.01:
             d.sweep(second + 25)
@@ -77,6 +86,14 @@ def limits(d):
         d.deliver(block(3, bytes([18]) + bytes(8) + b"whole"), at, 0)
 
 
+def whole_under_a_finished_id(d):
+    """A whole I2NP block passes no store (02's reading 5.11): delivered under a remembered id, before and after, and not remembered itself."""
+    whole = block(3, bytes([18]) + (7).to_bytes(4, "big") + bytes(4) + b"whole")
+    pieces = ((20, 9), [b"one", b"two"])
+    said = [d.deliver(payload, 0, 0) for payload in (whole, fragment(7, pieces, 0), fragment(7, pieces, 1), whole, fragment(7, pieces, 1), whole)]
+    d.judge.compare(said, [0, 0, 60, 0, 57, 0], True, "a whole message under a finished id", whole)
+
+
 def all_in_one(d):
     """A payload that holds all of a message delivers it at its last missing piece."""
     blocks = [fragment(3, ((20, 9), [b"one", b"two", b"three"]), i) for i in (2, 0, 1)]
@@ -91,7 +108,7 @@ def short_loans(calls, judge, rng):
     cases = [(fragment(1, pieces, 0), (59, 3), None), (fragment(1, pieces, 1), (59, 3), None), (block(5, bytes(5) + b"x"), (59, 3), None),
              (block(4, bytes([99]) * 9), (3, 3), None), (b"", (1, 3), None), (block(15, b""), (0, 0), none),
              (block(3, bytes([18]) + bytes(8) + b"whole"), (0, 0), whole)]
-    for record_size, room_size in ((0, ROOM), (RECORD - 1, ROOM), (RECORD, 0), (RECORD, ROOM - 1)):
+    for record_size, room_size in ((0, ROOM), (RECORD - 1, ROOM), (BASE, ROOM), (RECORD, 0), (RECORD, ROOM - 1)):
         record, room, out = Lent(rng.randbytes(record_size)), Lent(b"r" * room_size), Lent(b"o" * 20)
         for last, wanted, message in cases:
             payload = block(15, b"") + last
@@ -105,6 +122,7 @@ def run(calls, judge, rng, whole):
     d = Deliveries(calls, judge, rng)
     limits(d)
     all_in_one(d)
+    whole_under_a_finished_id(d)
     d.empty()
     short_loans(calls, judge, rng)
     for payload in list(live())[:None if whole else 300]:

@@ -1,6 +1,7 @@
 """Records that no call made: a call returns, answers a number of 01's, leaves all bytes at a refusal, and writes none that it was not lent.
 
-59 comes exactly where a call would read bytes outside their slot by the record.
+59 comes exactly where a call would read bytes outside their slot by the record, 57 exactly where no slot is in use with an id that the record
+remembers; a sweep, and a message that is finished, leave the memory that the record's bytes say.
 """
 import collections
 import struct
@@ -10,13 +11,13 @@ from blocks_model import LISTED
 from deliveries import fragment
 from lent import Lent
 from reassembly import mixture
-from record_model import Record
+from record_model import IDS, KEPT, Record, remembering, swept
 from stores import LATEST, MESSAGE, RECORD, Pair
 
-FIRST = (0, 50, 52, 53, 54, 55, 56, 60)
+FIRST = (0, 50, 52, 53, 54, 55, 56, 57, 60)
 FOLLOW_ON = FIRST + (51,)
 
-CAME = collections.Counter()  # calls that read a held piece: to compare or to join it, with 59 due or not
+CAME = collections.Counter()  # calls that read a held piece: to compare or to join it, with 59 due or not; and ids that are remembered
 
 
 def some_tracker(rng):
@@ -48,15 +49,24 @@ def trackers(calls, judge, rng, count):
         judge.compare(registered in (0, 40, 42, 43), True, stands, "tracker_register on a forged tracker", content, number)
 
 
+def any_memory(rng, content):
+    """The record with any memory: open messages' ids and others, some of them twice, any seconds; a count that is small, whole or above 64."""
+    idents = [head[0] for head in Record(content).heads] + [rng.getrandbits(32) for _ in range(40)]
+    seconds = 0, 1, LATEST, LATEST - 29, rng.getrandbits(10), rng.getrandbits(64)
+    finished = [(rng.choice(idents), rng.choice(seconds)) for _ in range(KEPT)]
+    return remembering(content, finished, rng.choice((0, 1, 2, 63, 64, 65, 128, 255)))
+
+
 def some_record(rng, real):
-    """Random bytes, all ones, or a store with open messages of which some bytes were changed."""
+    """Random bytes, all ones, or a store with open messages of which some bytes were changed, or which has any memory."""
     at, n = rng.randrange(RECORD), rng.choice((1, 4, 24, 400))
-    return rng.choice((rng.randbytes(RECORD), b"\xff" * RECORD, (real[:at] + rng.randbytes(n) + real[at + n:])[:RECORD]))
+    changed = (real[:at] + rng.randbytes(n) + real[at + n:])[:RECORD]
+    return rng.choice((rng.randbytes(RECORD), b"\xff" * RECORD, changed, any_memory(rng, real), any_memory(rng, changed)))
 
 
 def some_ident(rng, content):
     """An id; likely one that stands somewhere in the record."""
-    at = rng.choice((24 * rng.randrange(16), rng.randrange(RECORD - 4)))
+    at = rng.choice((24 * rng.randrange(16), IDS + 4 * rng.randrange(KEPT), rng.randrange(RECORD - 4)))
     return int.from_bytes(content[at:at + 4], "little") if rng.random() < 0.8 else rng.getrandbits(32)
 
 
@@ -67,7 +77,7 @@ def edge(rng):
 
 
 def lacking_one(rng):
-    """A record whose one open message lacks one piece; up to two of its pieces stand at an edge. With its id, that number, the last, and a held one."""
+    """A record whose one open message lacks one piece; up to two of its pieces stand at an edge; any memory. With its id, that number, the last, and a held one."""
     slot, ident, last, content = rng.randrange(16), rng.getrandbits(32), rng.choice((1, 2, 5, 127)), bytearray(RECORD)
     number = rng.choice((0, last, rng.randrange(last + 1)))
     held = [k for k in range(last + 1) if k != number]
@@ -76,16 +86,17 @@ def lacking_one(rng):
     edges = rng.sample(held, min(len(held), rng.randrange(3)))
     for k in held:
         struct.pack_into("<HH", content, 384 + 512 * slot + 4 * k, *(edge(rng) if k in edges else (rng.randrange(64000), 40)))
-    return bytes(content), ident, number, last, rng.choice(edges or held)
+    return any_memory(rng, content), ident, number, last, rng.choice(edges or held)
 
 
 def right(before, got, allowed, ident, first, number, last, length):
-    """Whether the answer is 59 exactly where it is due, and else one of 01's."""
+    """Whether the answer is 59 and 57 exactly where they are due, and else one of 01's."""
     record = Record(before)
-    read = record.reads(ident, first, number, last, length)
+    read, late = record.reads(ident, first, number, last, length), record.refuses_late(ident, first, number, length)
     due = any(record.outside(*at) for at in read)
     CAME["held" if number in (k for _, k in read) else "joined", due] += bool(read)
-    return (got == 59) == due and got in allowed + (59,)
+    CAME["remembered", "open" if record.slot(ident) is not None else "late"] += any(i == ident for i, _ in record.memory)
+    return (got == 59) == due and (got == 57) == late and got in allowed + (59,)
 
 
 def piece(pair, ident, number=None, last=None):
@@ -94,11 +105,11 @@ def piece(pair, ident, number=None, last=None):
     first = rng.random() < 0.5 if number is None else number == 0
     data, out = Lent(rng.randbytes(rng.choice((0, 1, 20, 1500, 1501)))), Lent(pair.noise[:rng.choice((0, 100, MESSAGE))])
     before, called = pair.record.content(), (rng.randrange(256) if number is None else number, rng.randrange(2) if last is None else last)
-    number, last = (0, 0) if first else called
+    number, last, second = (0, 0, rng.getrandbits(64)) if first else (*called, rng.getrandbits(64))
     call = pair.calls.store_first if first else pair.calls.store_follow_on
-    got = call(*pair.record.slice(), *pair.room.slice(), *out.slice(), ident, *called, rng.getrandbits(64), *data.slice())
+    got = call(*pair.record.slice(), *pair.room.slice(), *out.slice(), ident, *called, second, *data.slice())
     written = got.length if got.number == 60 else 0
-    stands = pair.state_stands(got.number) and data.stays() and written <= out.size and out.outside(written)
+    stands = pair.state_stands(got.number, ident, second) and data.stays() and written <= out.size and out.outside(written)
     name = f"store_{'first' if first else 'follow_on'} on a forged record"
     good = right(before, got.number, FIRST if first else FOLLOW_ON, ident, first, number, last, data.size)
     pair.judge.compare(good, True, stands, name, before, got.number, ident, *called, data.content(), out.size)
@@ -111,10 +122,10 @@ def delivery(pair, ident):
     i = rng.choice((0, rng.randrange(len(parts))))
     payload = Lent(fragment(ident, ((rng.choice(sorted(LISTED)), 7), parts), i))
     out, told, before = Lent(pair.noise[:rng.choice((0, 100, MESSAGE))]), Lent(bytes(48)), pair.record.content()
-    loans = (*pair.record.slice(), *pair.room.slice(), *out.slice())
-    got = pair.calls.block_deliver(*payload.slice(), 0, *loans, rng.getrandbits(64), told.address)
+    loans, second = (*pair.record.slice(), *pair.room.slice(), *out.slice()), rng.getrandbits(64)
+    got = pair.calls.block_deliver(*payload.slice(), 0, *loans, second, told.address)
     length = int.from_bytes(told.content()[40:], "little")
-    stands = pair.state_stands(got.number) and payload.stays() and length <= out.size and out.outside(length if got.number == 60 else 0)
+    stands = pair.state_stands(got.number, ident, second) and payload.stays() and length <= out.size and out.outside(length if got.number == 60 else 0)
     stands = stands and (told.outside(48) if got.number in (0, 60) else told.stays())
     good = right(before, got.number, FOLLOW_ON, ident, i == 0, i, i == len(parts) - 1, len(parts[i]))
     pair.judge.compare(good, True, stands, "block_deliver on a forged record", before, got.number, payload.content(), out.size)
@@ -122,14 +133,19 @@ def delivery(pair, ident):
 
 def stores(pair, count):
     rng, real = pair.rng, pair.record.content()[:RECORD]
+    CAME.clear()
     for _ in range(count):
         content = some_record(rng, real)
         pair.record = Lent(content)
         for _ in range(3):
             piece(pair, some_ident(rng, content))
             delivery(pair, some_ident(rng, content))
-        got = pair.calls.store_sweep(*pair.record.slice(), rng.choice((0, 30, LATEST, rng.getrandbits(64))))
-        pair.judge.compare(got, 0, pair.record.outside(RECORD) and pair.room.stays(), "store_sweep on a forged record", content)
+        second = rng.choice((0, 30, 31, LATEST, rng.getrandbits(10), rng.getrandbits(64)))
+        got, left = pair.calls.store_sweep(*pair.record.slice(), second), swept(pair.record.was(), second)
+        stands = pair.record.start_is(left[:RECORD]) and pair.room.stays()
+        pair.judge.compare(got, 0, stands, "store_sweep on a forged record", pair.record.was(), second)
+    for case in (("remembered", "late"), ("remembered", "open")):
+        pair.judge.compare(CAME[case] > count // 4, True, True, f"pieces for forged records, {case}: {CAME[case]}")
 
 
 def nearly_whole(pair, count):

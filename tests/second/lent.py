@@ -62,6 +62,10 @@ class Lent:
     def content(self):
         return ctypes.string_at(self.address, self.size)
 
+    def was(self):
+        """The content that stood there when it was lent or kept."""
+        return self.before[self.skip:self.skip + self.size]
+
     def start_is(self, written):
         """Whether these bytes stand at the start and all others, the guard bytes too, are as they were."""
         return ctypes.string_at(self.address, len(written)) == written and self.outside(len(written))

@@ -1,5 +1,6 @@
 """Slices of no bytes: with a count of 0 the pointer may be anything."""
 from lent import Lent, numbers
+from stores import RECORD, ROOM
 
 ANYTHING = (0, 1, 3, 4096, (1 << 47) - 1, (1 << 64) - 1)
 
@@ -7,7 +8,7 @@ ANYTHING = (0, 1, 3, 4096, (1 << 47) - 1, (1 << 64) - 1)
 class Nothing:
     def __init__(self, calls, judge, pointer):
         self.calls, self.judge, self.none = calls, judge, (pointer, 0)
-        self.lent = {size: Lent(bytes(size)) for size in (11 * 8, 12 * 8, 259, 254, 24, 8576, 1048560, 48)}
+        self.lent = {size: Lent(bytes(size)) for size in (11 * 8, 12 * 8, 259, 254, 24, RECORD, ROOM, 48)}
 
     def at(self, size):
         return self.lent[size].slice()
@@ -48,7 +49,7 @@ class Nothing:
         self.says("ack_expand", self.calls.ack_expand(1, 2, *none, *none), 44)
 
     def stores(self):
-        none, record, room, piece = self.none, self.at(8576), self.at(1048560), Lent(b"abc").slice()
+        none, record, room, piece = self.none, self.at(RECORD), self.at(ROOM), Lent(b"abc").slice()
         self.says("store_new", self.calls.store_new(*none), 59)
         self.says("store_sweep", self.calls.store_sweep(*none, 99), 0)
         self.says("store_first", self.calls.store_first(*none, *none, *none, 1, 1, 1, 1, *piece), 59)

@@ -2,7 +2,7 @@
 import itertools
 
 from lent import Lent
-from stores import LATEST, MESSAGE, RECORD, ROOM, Pair
+from stores import BASE, LATEST, MESSAGE, RECORD, ROOM, Pair
 
 
 def message(rng, most=12):
@@ -62,16 +62,20 @@ def clashes(pair):
     pair.empty()
 
 
+def another(rng, ident):
+    """The id of the next message: one bit beside the finished one's, any other, or at times the same."""
+    return rng.choice((ident ^ 1 << rng.randrange(32), rng.getrandbits(32), rng.getrandbits(32), ident))
+
+
 def mixture(pair, steps, ids):
-    """Pieces of messages under a few ids, some wrong, some again, with buffers of any length; sweeps; the clock mostly rises.
+    """Pieces of messages under a few ids, some wrong, some again, some of finished ones, with buffers of any length; sweeps; the clock mostly rises.
 
     A step at a time, so that two stores can take turns.
     """
     rng, second = pair.rng, pair.rng.choice((0, 1000, LATEST - 200))
-    messages = {rng.choice((i, i % 16 << 28, (1 << 32) - 1 - i)): message(rng) for i in range(ids)}
+    messages, late = {rng.choice((i, i % 16 << 28, (1 << 32) - 1 - i)): message(rng) for i in range(ids)}, []
     for _ in range(steps):
-        ident = rng.choice(list(messages))
-        pieces = messages[ident]
+        ident, pieces = rng.choice(late if late and rng.random() < 0.1 else list(messages.items()))
         i = rng.randrange(len(pieces[1]))
         second = min(LATEST - 30, max(0, second + rng.choice((0, 0, 0, 1, 2, -1))))
         whole = sum(map(len, pieces[1]))
@@ -85,7 +89,9 @@ def mixture(pair, steps, ids):
         elif rng.random() < 0.01:
             pair.sweep(min(LATEST, max(0, second + rng.choice((-1, 0, 20, 29, 30, 31)))))
         elif pair.cut(ident, pieces, i, second, size) == 60:
-            messages[ident] = message(rng)
+            late = late[-69:] + [(ident, pieces)]
+            messages.pop(ident, None)
+            messages[another(rng, ident)] = message(rng)
         if rng.random() < 0.02:
             pair.move()
         yield
@@ -105,7 +111,7 @@ def in_turn(pairs, steps):
 
 
 def any_order(pair, count, length, repeats):
-    """Up to sixteen messages of count pieces in one shuffled order, repeats of held pieces among them: each out once, none left."""
+    """Up to sixteen messages of count pieces in one shuffled order, repeats of held pieces and of finished messages' among them: each out once, none left."""
     rng = pair.rng
     messages = {rng.getrandbits(32): ((rng.randrange(256), 7), [rng.randbytes(length) for _ in range(count)]) for _ in range(rng.randrange(1, 17))}
     order = [(ident, i) for ident in messages for i in range(count)]
@@ -115,7 +121,7 @@ def any_order(pair, count, length, repeats):
         finished += pair.cut(ident, messages[ident], i) == 60
         held.append((ident, i))
         again, j = rng.choice(held)
-        if again in pair.model.open and rng.random() < repeats:
+        if rng.random() < repeats:
             pair.cut(again, messages[again], j)
     pair.judge.compare(finished, len(messages), True, "messages finished", pair.told)
 
@@ -157,16 +163,20 @@ def limits(pair):
 
 
 def full(pair):
-    """Sixteen open: a seventeenth is refused, repeats and clashes keep their numbers, a place that was freed is used again."""
+    """Sixteen open: a seventeenth is refused, repeats and clashes keep their numbers, a place that was freed is used again; a finished one's piece is a 57."""
     pair.start(new=True)
     for i in range(16):
         pair.follow_on(i, 1, 1, i, b"end")
+    idents = list(range(18))
     for _ in range(40):
         i = pair.rng.randrange(18)
-        pair.follow_on(i, 1, 1, i, pair.rng.choice((b"end", b"und")))
-        pair.follow_on(i, 2, 0, i, b"x")
+        ident = idents[i]
+        pair.follow_on(ident, 1, 1, i, pair.rng.choice((b"end", b"und")))
+        pair.follow_on(ident, 2, 0, i, b"x")
         pair.first(99, 1, 1, 1, pair.rng.choice((b"", b"a")))
-        pair.first(i, i, i, 50, b"start ", pair.rng.choice((8, 9)))
+        if pair.first(ident, i, i, 50, b"start ", pair.rng.choice((8, 9))) == 60:
+            pair.follow_on(ident, 1, 1, i, b"end")
+            idents[i] += 1000
     for second in range(28, 50):
         pair.sweep(second)
         pair.first(second, 1, 1, second, b"new")
@@ -188,7 +198,7 @@ def sweeps(pair):
 
 def short_loans(calls, judge, rng):
     """59 comes first wherever record or room is short, and nothing is written; a sweep answers 0."""
-    sizes = (0, ROOM), (RECORD - 1, ROOM), (RECORD, 0), (RECORD, ROOM - 1), (RECORD + 9, 100), (0, 0), (RECORD - 1, ROOM - 1)
+    sizes = (0, ROOM), (RECORD - 1, ROOM), (BASE, ROOM), (RECORD, 0), (RECORD, ROOM - 1), (RECORD + 9, 100), (0, 0), (RECORD - 1, ROOM - 1)
     for record_size, room_size in sizes:
         record, room, out = Lent(rng.randbytes(record_size)), Lent(rng.randbytes(1) * room_size), Lent(rng.randbytes(200))
         for length in (0, 5, 1501):

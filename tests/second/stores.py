@@ -1,10 +1,12 @@
 """A store of the library's and one of the model's, handed the same pieces."""
 from lent import Lent
 from reassembly_model import Store
+from record_model import finished_in, memory, memory_stays, swept
 from shrink import Remembered
 
-RECORD, ROOM, MESSAGE = 8576, 1048560, 65535
+RECORD, ROOM, MESSAGE = 9345, 1048560, 65535
 LATEST = 2 ** 64 - 1
+BASE = 8576  # what a record had before it remembered finished messages
 
 
 class Pair(Remembered):
@@ -31,14 +33,22 @@ class Pair(Remembered):
         """The caller may keep record and room anywhere between two calls."""
         self.record, self.room = Lent(self.record.content()), Lent(self.room.content())
 
-    def state_stands(self, number):
-        """A refusal leaves record and room whole, an acceptance what is past their ends; then both are looked at anew."""
+    def state_stands(self, number, ident, second):
+        """A refusal leaves record and room whole. An acceptance leaves what is past their ends and, unless it finished a message, the memory.
+
+        Then both are looked at anew.
+        """
         if number not in (0, 60):
             return self.record.stays() and self.room.stays()
+        before, after = self.record.was(), self.record.content()
         stands = self.record.outside(RECORD) and self.room.outside(ROOM)
+        stands = stands and (finished_in(before, after, ident, second) if number == 60 else memory_stays(before, after))
         self.record.keep()
         self.room.keep()
         return stands
+
+    def remembers_as_the_model(self):
+        return memory(self.record.content()) == self.model.finished
 
     def first(self, ident, kind, expires, second, data, size=MESSAGE):
         wanted = self.model.first(ident, kind, expires, second, data, size)
@@ -54,7 +64,8 @@ class Pair(Remembered):
         got = getattr(self.calls, "store_" + call)(*self.record.slice(), *self.room.slice(), *out.slice(), *numbers, *lent.slice())
         number, message = wanted
         kind, expires, whole = message or (0, 0, b"")
-        stands = self.state_stands(number) and lent.stays() and out.start_is(whole)
+        stands = self.state_stands(number, numbers[0], numbers[3]) and lent.stays() and out.start_is(whole)
+        stands = stands and self.remembers_as_the_model()
         answer = (got.number, got.kind, got.expires, got.length)
         self.judged(answer, (number, kind, expires, len(whole)), stands, "store_" + call, self.told)
         return number
@@ -63,7 +74,8 @@ class Pair(Remembered):
         self.remember("sweep", second)
         self.model.sweep(second)
         got = self.calls.store_sweep(*self.record.slice(), second)
-        self.judged(got, 0, self.record.outside(RECORD) and self.room.stays(), "store_sweep", self.told)
+        stands = self.record.start_is(swept(self.record.was(), second)[:RECORD]) and self.room.stays()
+        self.judged(got, 0, stands and self.remembers_as_the_model(), "store_sweep", self.told)
         self.record.keep()
 
     def cut(self, ident, pieces, i, second=0, size=MESSAGE):

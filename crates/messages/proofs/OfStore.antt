@@ -16,10 +16,11 @@ use Rattle.blocks.specs.declared.Block.the-variants as Body
 use Rattle.blocks.specs.declared.Read.the-variants as Got
 use Rattle.blocks.specs.Reading.{readAt}
 use Rattle.reassembly.specs.declared.Reply.{Reply}
+use Rattle.reassembly.specs.Sizes.{mostRemembered}
 use Rattle.reassembly.specs.Store.{first, follow, Rebuilt, Answer, step}
 use Rattle.reassembly.specs.Calls.{lent, After, firstCall, followOnCall}
 use Rattle.reassembly.specs.Stands.{stands, Agrees}
-use Rattle.reassembly.proofs.Steps.{first-promise, follow-promise}
+use Rattle.reassembly.proofs.Taken.{first-promise, follow-promise}
 use Rattle.reassembly.proofs.Brought.{Sober, step-sober, reply-number, reply-some, laid-some}
 use Rattle.messages.specs.declared.Received.{Received}
 use Rattle.messages.specs.Delivery.{deliveryWith, nothing, wholeAt, rebuiltBy, rebuilt, deliveredBy, delivered, messageIn}
@@ -71,7 +72,7 @@ some-shown : (s out : List ℕ) (at id n : ℕ) (w : Rebuilt) → length (w .byt
 unfolding messageIn receivedFor
 some-shown s out at id n w h = part-same out 0 (w .bytes) (omega arith)
 
-rebuilt-of : (s : List ℕ) (at : ℕ) (out : List ℕ) (x : After) (a : Answer) (id : ℕ) → Agrees out x a → Sober (length out) a → OfStore s at id out (rebuilt at x id) a
+rebuilt-of : (s : List ℕ) (at : ℕ) (out : List ℕ) (x : After) (a : Answer) (id : ℕ) → Agrees out x a → Sober (length out) (a .number) (a .out) → OfStore s at id out (rebuilt at x id) a
 unfolding rebuilt outBytes
 rebuilt-of s at out x a id g b = go (a .out) refl
   where
@@ -102,17 +103,17 @@ pub first-of-store : FirstOfStore
 unfolding deliveredBy
 first-of-store s at rec room out second k i x p m hi hx hs =
     rebuilt-of s at out (firstCall (lent rec room out) (record { id = i; number = 0; last = false; kind = k; expires = x }) second (part s (p .start) (p .len)))
-    (step (length out) (stands rec room) (first i k x (part s (p .start) (p .len))) second) i
+    (step mostRemembered (length out) (stands rec room) (first i k x (part s (p .start) (p .len))) second) i
     (first-promise rec room out i k x second (part s (p .start) (p .len)) _ hi hx hs refl m)
-    (step-sober (length out) (stands rec room) (first i k x (part s (p .start) (p .len))) second)
+    (step-sober mostRemembered (length out) (stands rec room) (first i k x (part s (p .start) (p .len))) second)
 
 pub follow-of-store : FollowOfStore
 unfolding deliveredBy
 follow-of-store s at rec room out second n l i p m hi hs =
     rebuilt-of s at out (followOnCall (lent rec room out) (record { id = i; number = n; last = l; kind = 0; expires = 0 }) second (part s (p .start) (p .len)))
-    (step (length out) (stands rec room) (follow i n l (part s (p .start) (p .len))) second) i
+    (step mostRemembered (length out) (stands rec room) (follow i n l (part s (p .start) (p .len))) second) i
     (follow-promise rec room out i n l second (part s (p .start) (p .len)) _ hi hs refl m)
-    (step-sober (length out) (stands rec room) (follow i n l (part s (p .start) (p .len))) second)
+    (step-sober mostRemembered (length out) (stands rec room) (follow i n l (part s (p .start) (p .len))) second)
 
 -- a whole message is its block's part of the payload, and the store stays
 pub whole-shown : (s : List ℕ) (at : ℕ) (rec room out : List ℕ) (second k i x : ℕ) (p : Part)

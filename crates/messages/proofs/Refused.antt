@@ -104,7 +104,7 @@ module _ (s : List ℕ) (at : ℕ) (x : Lent) (second : ℕ) where
 
 -- kept and finished, a block's refusals, a piece's
 abbrev pub deliveryNumbers : List ℕ
-deliveryNumbers = 0 ∷ 60 ∷ 1 ∷ 2 ∷ 3 ∷ 4 ∷ 5 ∷ 6 ∷ 7 ∷ 8 ∷ 9 ∷ 50 ∷ 51 ∷ 52 ∷ 53 ∷ 54 ∷ 55 ∷ 56 ∷ 59 ∷ []
+deliveryNumbers = 0 ∷ 60 ∷ 1 ∷ 2 ∷ 3 ∷ 4 ∷ 5 ∷ 6 ∷ 7 ∷ 8 ∷ 9 ∷ 50 ∷ 51 ∷ 52 ∷ 53 ∷ 54 ∷ 55 ∷ 56 ∷ 57 ∷ 59 ∷ []
 
 of-piece : (n : ℕ) → OneOf followOnNumbers n → OneOf deliveryNumbers n
 of-piece n (inl e) = inl e

@@ -9,6 +9,7 @@ use lib.ListN.{length}
 use Rattle.wire.specs.Parts.{part}
 use Rattle.blocks.specs.declared.Part.{Part}
 use Rattle.blocks.specs.declared.Block.the-variants as Body
+use Rattle.reassembly.specs.Sizes.{mostRemembered}
 use Rattle.reassembly.specs.Store.{first, follow, Rebuilt, Answer, step}
 use Rattle.reassembly.specs.Calls.{lent}
 use Rattle.reassembly.specs.Stands.{stands, Made, laidOut}
@@ -38,10 +39,10 @@ pub record OfStore (s : List ℕ) (at id : ℕ) (out : List ℕ) (x : Delivery) 
 abbrev pub FirstOfStore : Type 0
 FirstOfStore =
     (s : List ℕ) (at : ℕ) (rec room out : List ℕ) (second k i x : ℕ) (p : Part) → Made rec room → i < 4294967296 → x < 4294967296 → second < 18446744073709551616
-    → OfStore s at i out (deliveredBy s at (lent rec room out) second (Body.FirstFragment k i x p)) (step (length out) (stands rec room) (first i k x (part s (p .start) (p .len))) second)
+    → OfStore s at i out (deliveredBy s at (lent rec room out) second (Body.FirstFragment k i x p)) (step mostRemembered (length out) (stands rec room) (first i k x (part s (p .start) (p .len))) second)
 
 -- and so is a follow-on fragment's
 abbrev pub FollowOfStore : Type 0
 FollowOfStore =
     (s : List ℕ) (at : ℕ) (rec room out : List ℕ) (second n : ℕ) (l : Bool) (i : ℕ) (p : Part) → Made rec room → i < 4294967296 → second < 18446744073709551616
-    → OfStore s at i out (deliveredBy s at (lent rec room out) second (Body.FollowOnFragment n l i p)) (step (length out) (stands rec room) (follow i n l (part s (p .start) (p .len))) second)
+    → OfStore s at i out (deliveredBy s at (lent rec room out) second (Body.FollowOnFragment n l i p)) (step mostRemembered (length out) (stands rec room) (follow i n l (part s (p .start) (p .len))) second)

@@ -47,15 +47,15 @@ demand1 =
       ack-expanded = λ through count pairs list h. (Acks.expand-numbers through count pairs (length list) h, Acks.expand-leaves through count pairs list h);
       store-renewed = λ rec h. (Store.renew-numbers rec h, Store.renew-leaves rec h);
       first-taken = λ x l second v h. (
-        others 50 (52 ∷ 53 ∷ 54 ∷ 55 ∷ 56 ∷ 59 ∷ []) _ h (Store.first-numbers x l second v),
+        others 50 (52 ∷ 53 ∷ 54 ∷ 55 ∷ 56 ∷ 57 ∷ 59 ∷ []) _ h (Store.first-numbers x l second v),
         stays x (firstCall x l second v) (careful-first x l second v) h,
       );
       follow-on-taken = λ x l second v h. (
-        others 50 (51 ∷ 52 ∷ 53 ∷ 54 ∷ 55 ∷ 56 ∷ 59 ∷ []) _ h (Store.follow-on-numbers x l second v),
+        others 50 (51 ∷ 52 ∷ 53 ∷ 54 ∷ 55 ∷ 56 ∷ 57 ∷ 59 ∷ []) _ h (Store.follow-on-numbers x l second v),
         stays x (followOnCall x l second v) (careful-follow-on x l second v) h,
       );
       delivery = λ s at x second h. (
-        others 1 (2 ∷ 3 ∷ 4 ∷ 5 ∷ 6 ∷ 7 ∷ 8 ∷ 9 ∷ 50 ∷ 51 ∷ 52 ∷ 53 ∷ 54 ∷ 55 ∷ 56 ∷ 59 ∷ []) _ h (Messages.delivery-numbers s at x second),
+        others 1 (2 ∷ 3 ∷ 4 ∷ 5 ∷ 6 ∷ 7 ∷ 8 ∷ 9 ∷ 50 ∷ 51 ∷ 52 ∷ 53 ∷ 54 ∷ 55 ∷ 56 ∷ 57 ∷ 59 ∷ []) _ h (Messages.delivery-numbers s at x second),
         Messages.delivery-stays s at x second (h .0) (h .1),
       );
     }

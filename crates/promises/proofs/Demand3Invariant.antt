@@ -1,5 +1,4 @@
--- The key invariant of demand 3: each place of the store is free or holds exactly the pieces delivered so far of one open message; every open message has
--- its place; and an event of the schedule keeps this and answers what is due. Assumes nothing.
+-- The key invariant of demand 3: each slot is free or holds exactly the pieces delivered so far of one open message, and every open message has its slot. Assumes nothing.
 use mathlib.Core.Path.{_≡_, refl, sym, ap, _∙_, subst}
 use mathlib.Core.Logic.{_≢_}
 use mathlib.Core.Bool.{Bool, true, false, cond, not, _&&_, true≢false, false≢true}
@@ -11,50 +10,57 @@ use native.Mathlib.Decide.{ℕ-discrete}
 use lib.ListN.{length, getD, set, length-set}
 use lib.Seq.{getD-set-same, getD-set-other, set-getD}
 use Rattle.reassembly.specs.Sizes.{messageSize}
-use Rattle.reassembly.specs.Store.{Message, Store, findFree, slotOf, messageOr, plus, answer, step}
+use Rattle.reassembly.specs.Store.{Message, Slots, SlotsAnswer, findFree, slotOf, messageOr, plus, answer, slotsStep, slotsSweep}
 use Rattle.reassembly.proofs.Series.{free-none}
 use Rattle.reassembly.proofs.Stores.{none≢some, Hit, place-open, place-new, free-inside, message-open, step-is, sweep-same}
-use Rattle.promises.specs.Demand3.{Cut, Within, pieceOf, cutFrom, noCut, deliver, sweepAt, Tally, noTally, anyMark, allMarks, begun, done, isOpen, marked, note, count, Allowed, Orderly, dueOne, act, saidOf}
+use Rattle.promises.specs.Demand3.{Cut, Within, pieceOf, cutFrom, noCut, deliver, Tally, noTally, anyMark, allMarks, begun, done, isOpen, marked, tallied, count, Orderly, Said, dueOne}
 use Rattle.promises.proofs.Demand3Marks.{none-at, not-all-at, any-set, any-at, set-mark, count-set, count-less}
 use Rattle.promises.proofs.Demand3Rebuilt.{Holds, holds-new, holds-plus, id-piece}
-use Rattle.promises.proofs.Demand3Places.{isFull, not-full, answer-repeat, answer-kept, answer-finished}
+use Rattle.promises.proofs.Demand3Slots.{isFull, not-full, answer-repeat, answer-kept, answer-finished}
 
+-- message c of a list
 abbrev pub cutAt : List Cut → ℕ → Cut
 cutAt cs c = getD cs c noCut
 
+-- its tally
 abbrev pub tallyAt : List Tally → ℕ → Tally
 tallyAt ts c = getD ts c noTally
 
--- m is the place of the open message c
+-- what the slots say to a piece
+unfoldable pub slotsSaid : SlotsAnswer → Said
+slotsSaid a = record { number = a .number; out = a .out }
+
+-- m is what the open message c has come to
 pub record Owned (cs : List Cut) (ts : List Tally) (m : Message) (c : ℕ) : Type 0 where
   pub inside : c < length cs
   pub is-open : isOpen (tallyAt ts c) ≡ true
   pub holds : Holds (cutAt cs c) (tallyAt ts c .marks) (tallyAt ts c .opened) m
 
--- c has a place
-pub record Placed (cs : List Cut) (s : Store) (c : ℕ) : Type 0 where
+-- c has a slot
+pub record HasSlot (cs : List Cut) (s : Slots) (c : ℕ) : Type 0 where
   pub at : ℕ
   pub there : Message
   pub is-there : getD s at none ≡ some there
   pub its-id : there .id ≡ cutAt cs c .id
 
-pub record Inv (cs : List Cut) (ts : List Tally) (s : Store) : Type 0 where
-  pub slots : length s ≡ 16
+-- The invariant, over any number of slots.
+pub record Inv (slots : ℕ) (cs : List Cut) (ts : List Tally) (s : Slots) : Type 0 where
+  pub size : length s ≡ slots
   pub tallies : length ts ≡ length cs
   pub marks-long : (c : ℕ) → c < length cs → length (tallyAt ts c .marks) ≡ length (cutAt cs c .pieces)
   pub owned : (k : ℕ) (m : Message) → getD s k none ≡ some m → (c : ℕ) × Owned cs ts m c
-  pub placed : (c : ℕ) → isOpen (tallyAt ts c) ≡ true → Placed cs s c
+  pub has-slot : (c : ℕ) → isOpen (tallyAt ts c) ≡ true → HasSlot cs s c
   pub apart : (k l : ℕ) (m n : Message) → getD s k none ≡ some m → getD s l none ≡ some n → m .id ≡ n .id → k ≡ l
   pub counted : count isFull s ≡ count isOpen ts
-  pub orderly : Orderly cs ts
+  pub orderly : Orderly slots cs ts
 
--- Where piece i of c goes: to a place k, whose message, new or open, holds the marked pieces of c
-pub record Found (cs : List Cut) (ts : List Tally) (s : Store) (c second : ℕ) : Type 0 where
+-- Where piece i of c goes: to a slot k, whose message, new or open, holds the marked pieces of c
+pub record Found (cs : List Cut) (ts : List Tally) (s : Slots) (c second : ℕ) : Type 0 where
   pub at : ℕ
   pub there : Message
   pub is-at : slotOf (cutAt cs c .id) s ≡ at
   pub is-there : messageOr (getD s at none) (cutAt cs c .id) second ≡ there
-  pub inside : at < 16
+  pub inside : at < length s
   pub holds : Holds (cutAt cs c) (tallyAt ts c .marks) (cond (begun (tallyAt ts c)) (tallyAt ts c .opened) second) there
   pub alone : (k : ℕ) (m : Message) → getD s k none ≡ some m → m .id ≡ cutAt cs c .id → k ≡ at
   pub full : isFull (getD s at none) ≡ begun (tallyAt ts c)
@@ -67,7 +73,7 @@ open-parts t = go (begun t) refl
     go true e h = e
     go false e h = absurd (false≢true h)
 
-open-of : (t : Tally) → begun t ≡ true → done t ≡ false → isOpen t ≡ true
+pub open-of : (t : Tally) → begun t ≡ true → done t ≡ false → isOpen t ≡ true
 unfolding isOpen
 open-of t b d = rw (b, d) refl
 
@@ -91,13 +97,13 @@ some-injective : (m n : Message) → some m ≡ some n → m ≡ n
 some-injective m n e = cc
 
 -- one piece of a message that was not begun does not complete it
-one-of-two : (bs : List Bool) (i : ℕ) → 2 ≤ length bs → anyMark bs ≡ false → allMarks (set bs i true) ≡ false
+pub one-of-two : (bs : List Bool) (i : ℕ) → 2 ≤ length bs → anyMark bs ≡ false → allMarks (set bs i true) ≡ false
 one-of-two bs zero h e = not-all-at (set bs zero true) 1 (getD-set-other bs 0 1 true false (λ z. omega arith) ∙ none-at bs 1 e) (rw (length-set bs zero true) (omega arith))
 one-of-two bs (suc i) h e = not-all-at (set bs (suc i) true) 0 (getD-set-other bs (suc i) 0 true false (λ z. omega arith) ∙ none-at bs 0 e) (rw (length-set bs (suc i) true) (omega arith))
 
-module _ (cs : List Cut) (within : (c : ℕ) → c < length cs → Within (cutAt cs c)) (ts : List Tally) (s : Store) (v : Inv cs ts s)
+module _ (slots : ℕ) (cs : List Cut) (within : (c : ℕ) → c < length cs → Within (cutAt cs c)) (ts : List Tally) (s : Slots) (v : Inv slots cs ts s)
     (c i second : ℕ) (cc′ : c < length cs) (ic : i < length (cutAt cs c .pieces)) (nd : done (tallyAt ts c) ≡ false)
-    (tidy′ : Orderly cs (note ts (deliver c i second))) where
+    (tidy′ : Orderly slots cs (tallied ts c i second)) where
   ts′ : List Tally
   ts′ = set ts c (marked (tallyAt ts c) i second)
 
@@ -108,7 +114,7 @@ module _ (cs : List Cut) (within : (c : ℕ) → c < length cs → Within (cutAt
         there = m;
         is-at = refl;
         is-there = ap (λ (r : Option Message). messageOr r (cutAt cs c .id) second) (hit .is-there) ∙ message-open m (cutAt cs c .id) second;
-        inside = omega (arith, hit .inside, v .slots);
+        inside = hit .inside;
         holds = rw b (rw same at (o .1 .holds));
         alone = λ l n e q. v .apart l k n m e (hit .is-there) (q ∙ sym (hit .its-id));
         full = rw (hit .is-there, b) refl;
@@ -117,8 +123,8 @@ module _ (cs : List Cut) (within : (c : ℕ) → c < length cs → Within (cutAt
       o-c : isOpen (tallyAt ts c) ≡ true
       o-c = open-of (tallyAt ts c) b nd
 
-      p : Placed cs s c
-      p = v .placed c o-c
+      p : HasSlot cs s c
+      p = v .has-slot c o-c
 
       hit : Hit (cutAt cs c .id) s (slotOf (cutAt cs c .id) s)
       hit = place-open (cutAt cs c .id) s (p .at) (p .there) (p .is-there) (p .its-id)
@@ -144,15 +150,15 @@ module _ (cs : List Cut) (within : (c : ℕ) → c < length cs → Within (cutAt
   unfolding ts′
   mine = getD-set-same ts c (marked (tallyAt ts c) i second) noTally (omega (arith, v .tallies))
 
-  orderly′ : Orderly cs ts′
-  unfolding note ts′
+  orderly′ : Orderly slots cs ts′
+  unfolding tallied ts′
   orderly′ = tidy′
 
   begun′ : begun (marked (tallyAt ts c) i second) ≡ true
   unfolding begun marked
   begun′ = any-set (tallyAt ts c .marks) i (omega (arith, v .marks-long c cc′))
 
-  counted′ : (s′ : Store) (k : ℕ) (x : Option Message) → k < length s → s′ ≡ set s k x → isFull (getD s k none) ≡ begun (tallyAt ts c) → isFull x ≡ isOpen (marked (tallyAt ts c) i second) → count isFull s′ ≡ count isOpen ts′
+  counted′ : (s′ : Slots) (k : ℕ) (x : Option Message) → k < length s → s′ ≡ set s k x → isFull (getD s k none) ≡ begun (tallyAt ts c) → isFull x ≡ isOpen (marked (tallyAt ts c) i second) → count isFull s′ ≡ count isOpen ts′
   unfolding ts′
   counted′ s′ k x kl e f g =
       let a : count isFull (set s k x) + cond (isFull (getD s k none)) 1 0 ≡ count isFull s + cond (isFull x) 1 0 = count-set isFull s k x none kl in
@@ -160,7 +166,7 @@ module _ (cs : List Cut) (within : (c : ℕ) → c < length cs → Within (cutAt
       = count-set isOpen ts c (marked (tallyAt ts c) i second) noTally (omega (arith, v .tallies)) in
       let f′ : _≡_ {A = ℕ} (cond (isFull (getD s k none)) 1 0) (cond (isOpen (tallyAt ts c)) 1 0) = ap {B = ℕ} (λ (z : Bool). cond z 1 0) (f ∙ sym (open-begun (tallyAt ts c) nd)) in
       let g′ : _≡_ {A = ℕ} (cond (isFull x) 1 0) (cond (isOpen (marked (tallyAt ts c) i second)) 1 0) = ap {B = ℕ} (λ (z : Bool). cond z 1 0) g in
-      let e′ : count isFull s′ ≡ count isFull (set s k x) = ap (λ (z : Store). count isFull z) e in
+      let e′ : count isFull s′ ≡ count isFull (set s k x) = ap (λ (z : Slots). count isFull z) e in
       omega (arith, v .counted)
 
   new-found : begun (tallyAt ts c) ≡ false → Found cs ts s c second
@@ -170,7 +176,7 @@ module _ (cs : List Cut) (within : (c : ℕ) → c < length cs → Within (cutAt
         there = messageOr none (cutAt cs c .id) second;
         is-at = place-new (cutAt cs c .id) s nobody;
         is-there = rw (free-none s) refl;
-        inside = omega (arith, k-in, v .slots);
+        inside = k-in;
         holds = rw b (holds-new (cutAt cs c) (tallyAt ts c .marks) second none-marked);
         alone = λ l n e q. absurd (nobody l n e q);
         full = rw (free-none s, b) refl;
@@ -202,7 +208,7 @@ module _ (cs : List Cut) (within : (c : ℕ) → c < length cs → Within (cutAt
 
       k-in : k < length s
       k-in =
-          let g = count-less isFull s none (omega (arith, one-more, v .counted, v .slots, orderly′ .at-most)) in
+          let g = count-less isFull s none (omega (arith, one-more, v .counted, v .size, orderly′ .at-most)) in
           free-inside s (g .0) (g .1) (not-full (getD s (g .0) none) (g .2))
 
   found : Found cs ts s c second
@@ -212,19 +218,19 @@ module _ (cs : List Cut) (within : (c : ℕ) → c < length cs → Within (cutAt
       go true e = open-found e
       go false e = new-found e
 
-  -- the place of c gets what the tally after the piece says: the message with the piece, or nothing
+  -- the slot of c gets what the tally after the piece says: the message with the piece, or nothing
   set-inv : (f : Found cs ts s c second) (x : Option Message)
       → ((n : Message) → x ≡ some n → (isOpen (marked (tallyAt ts c) i second) ≡ true) × Holds (cutAt cs c) (marked (tallyAt ts c) i second .marks) (marked (tallyAt ts c) i second .opened) n)
       → (isOpen (marked (tallyAt ts c) i second) ≡ true → (n : Message) × (x ≡ some n) × (n .id ≡ cutAt cs c .id))
       → isFull x ≡ isOpen (marked (tallyAt ts c) i second)
-      → Inv cs ts′ (set s (f .at) x)
+      → Inv slots cs ts′ (set s (f .at) x)
   set-inv f x hx hy hz =
       record {
-        slots = length-set s k x ∙ v .slots;
+        size = length-set s k x ∙ v .size;
         tallies = unfold ts′ in (length-set ts c (marked (tallyAt ts c) i second) ∙ v .tallies);
         marks-long = λ d dl. long d dl (ℕ-discrete d c);
         owned = λ l n e. own l n e (ℕ-discrete l k);
-        placed = λ d o. place d o (ℕ-discrete d c);
+        has-slot = λ d o. slotted d o (ℕ-discrete d c);
         apart = λ l₁ l₂ n₁ n₂ e₁ e₂ q. sole l₁ l₂ n₁ n₂ e₁ e₂ q (ℕ-discrete l₁ k) (ℕ-discrete l₂ k);
         counted = counted′ (set s k x) k x k-in refl (f .full) hz;
         orderly = orderly′;
@@ -234,7 +240,7 @@ module _ (cs : List Cut) (within : (c : ℕ) → c < length cs → Within (cutAt
       k = f .at
 
       k-in : k < length s
-      k-in = omega (arith, f .inside, v .slots)
+      k-in = f .inside
 
       at-k : getD (set s k x) k none ≡ x
       at-k = getD-set-same s k x none k-in
@@ -257,17 +263,17 @@ module _ (cs : List Cut) (within : (c : ℕ) → c < length cs → Within (cutAt
           let d≢c : o .0 ≢ c = λ z. q (f .alone l n e′ (o .1 .holds .id ∙ ap (λ (d : ℕ). cutAt cs d .id) z)) in
           (o .0, record { inside = o .1 .inside; is-open = rw (other (o .0) d≢c) (o .1 .is-open); holds = rw (other (o .0) d≢c) (o .1 .holds) })
 
-      place : (d : ℕ) → isOpen (tallyAt ts′ d) ≡ true → Dec (d ≡ c) → Placed cs (set s k x) d
-      place d o (yes q) =
+      slotted : (d : ℕ) → isOpen (tallyAt ts′ d) ≡ true → Dec (d ≡ c) → HasSlot cs (set s k x) d
+      slotted d o (yes q) =
           let a : (n : Message) × (x ≡ some n) × (n .id ≡ cutAt cs c .id) = hy (sym (ap isOpen mine) ∙ (ap (λ (z : ℕ). isOpen (tallyAt ts′ z)) (sym q) ∙ o)) in
           record { at = k; there = a .0; is-there = at-k ∙ a .1; its-id = a .2 ∙ ap (λ (z : ℕ). cutAt cs z .id) (sym q) }
-      place d o (no q) =
+      slotted d o (no q) =
           let od : isOpen (tallyAt ts d) ≡ true = sym (ap isOpen (other d q)) ∙ o in
-          let p : Placed cs s d = v .placed d od in
+          let p : HasSlot cs s d = v .has-slot d od in
           let l≢k : p .at ≢ k = λ z. q (mix p z od) in
           record { at = p .at; there = p .there; is-there = at-other (p .at) l≢k ∙ p .is-there; its-id = p .its-id }
         where
-          mix : (p : Placed cs s d) → p .at ≡ k → isOpen (tallyAt ts d) ≡ true → d ≡ c
+          mix : (p : HasSlot cs s d) → p .at ≡ k → isOpen (tallyAt ts d) ≡ true → d ≡ c
           mix p z od =
               let e : getD s k none ≡ some (p .there) = ap (λ (l : ℕ). getD s l none) (sym z) ∙ p .is-there in
               let b : begun (tallyAt ts c) ≡ true = sym (f .full) ∙ ap isFull e in
@@ -287,7 +293,7 @@ module _ (cs : List Cut) (within : (c : ℕ) → c < length cs → Within (cutAt
 
   -- the piece is answered as is due, and the invariant holds again
   module _ (cap : ℕ) (room : messageSize ≤ cap) where
-    step-answer : (f : Found cs ts s c second) → step cap s (pieceOf (cutAt cs c) i) second ≡ answer cap s (pieceOf (cutAt cs c) i) (f .at) (f .there)
+    step-answer : (f : Found cs ts s c second) → slotsStep cap s (pieceOf (cutAt cs c) i) second ≡ answer cap s (pieceOf (cutAt cs c) i) (f .at) (f .there)
     step-answer f =
         step-is cap s (pieceOf (cutAt cs c) i) second (f .at) (f .there)
         (ap (λ (z : ℕ). slotOf z s) (id-piece (cutAt cs c) i) ∙ f .is-at)
@@ -306,8 +312,9 @@ module _ (cs : List Cut) (within : (c : ℕ) → c < length cs → Within (cutAt
         let e : tallyAt ts c ≡ marked (tallyAt ts c) i second = λ j. record { marks = m j; opened = n j } in
         sym (set-getD ts c noTally) ∙ ap (λ (x : Tally). set ts c x) e
 
-    pub delivered : (saidOf (act cap cs s (deliver c i second)) ≡ dueOne cs ts (deliver c i second)) × Inv cs (note ts (deliver c i second)) (act cap cs s (deliver c i second) .store)
-    unfolding act dueOne note saidOf ts′ since′
+    pub delivered : (slotsSaid (slotsStep cap s (pieceOf (cutAt cs c) i) second) ≡ dueOne cs ts (deliver c i second))
+        × Inv slots cs (tallied ts c i second) (slotsStep cap s (pieceOf (cutAt cs c) i) second .slots)
+    unfolding dueOne tallied slotsSaid ts′ since′
     delivered = go (getD (tallyAt ts c .marks) i false) refl (allMarks (set (tallyAt ts c .marks) i true)) refl
       where
         f : Found cs ts s c second
@@ -329,34 +336,33 @@ module _ (cs : List Cut) (within : (c : ℕ) → c < length cs → Within (cutAt
         done-is b e = unfold done marked in e
 
         go : (a : Bool) → getD (tallyAt ts c .marks) i false ≡ a → (b : Bool) → allMarks (set (tallyAt ts c .marks) i true) ≡ b
-            → (saidOf (step cap s (pieceOf (cutAt cs c) i) second) ≡ dueOne cs ts (deliver c i second)) × Inv cs (note ts (deliver c i second)) (step cap s (pieceOf (cutAt cs c) i) second .store)
+            → (slotsSaid (slotsStep cap s (pieceOf (cutAt cs c) i) second) ≡ dueOne cs ts (deliver c i second)) × Inv slots cs (tallied ts c i second) (slotsStep cap s (pieceOf (cutAt cs c) i) second .slots)
         go true a b e =
-            let q : step cap s (pieceOf (cutAt cs c) i) second ≡ record { number = 54; out = none; store = s }
+            let q : slotsStep cap s (pieceOf (cutAt cs c) i) second ≡ record { number = 54; out = none; slots = s }
             = step-answer f ∙ answer-repeat cap room s (f .at) (f .inside) (cutAt cs c) w (tallyAt ts c .marks) ml (cond (begun (tallyAt ts c)) (tallyAt ts c .opened) second) (f .there) (f .holds) i ic a in
-            rw (q, a) (refl, subst (λ (x : List Tally). Inv cs x s) (same-tallies a) v)
+            rw (q, nd, a) (refl, subst (λ (x : List Tally). Inv slots cs x s) (same-tallies a) v)
         go false a true e =
-            let q : step cap s (pieceOf (cutAt cs c) i) second ≡ record { number = 60; out = some (cutFrom (cutAt cs c)); store = set s (f .at) none }
+            let q : slotsStep cap s (pieceOf (cutAt cs c) i) second ≡ record { number = 60; out = some (cutFrom (cutAt cs c)); slots = set s (f .at) none }
             = step-answer f ∙ answer-finished cap room s (f .at) (f .inside) (cutAt cs c) w (tallyAt ts c .marks) ml (cond (begun (tallyAt ts c)) (tallyAt ts c .opened) second) (f .there) (f .holds) i ic a e in
             let d : isOpen (marked (tallyAt ts c) i second) ≡ false = closed-of (marked (tallyAt ts c) i second) (done-is true e) in
-            rw (q, a, done-is true e)
+            rw (q, nd, a, done-is true e)
             (refl, set-inv f none (λ n z. absurd (none≢some none n refl z)) (λ o. absurd (false≢true (sym d ∙ o))) (sym d))
         go false a false e =
-            let q : step cap s (pieceOf (cutAt cs c) i) second ≡ record { number = 0; out = none; store = set s (f .at) (some m′) }
+            let q : slotsStep cap s (pieceOf (cutAt cs c) i) second ≡ record { number = 0; out = none; slots = set s (f .at) (some m′) }
             = step-answer f ∙ answer-kept cap room s (f .at) (f .inside) (cutAt cs c) w (tallyAt ts c .marks) ml (cond (begun (tallyAt ts c)) (tallyAt ts c .opened) second) (f .there) (f .holds) i ic a e in
             let d : isOpen (marked (tallyAt ts c) i second) ≡ true = open-of (marked (tallyAt ts c) i second) begun′ (done-is false e) in
             let h″ : Holds (cutAt cs c) (marked (tallyAt ts c) i second .marks) (marked (tallyAt ts c) i second .opened) m′ = unfold marked since′ in h′ in
-            rw (q, a, done-is false e) (
+            rw (q, nd, a, done-is false e) (
               refl,
               set-inv f (some m′)
                   (λ n z. (d, subst (λ (x : Message). Holds (cutAt cs c) (marked (tallyAt ts c) i second .marks) (marked (tallyAt ts c) i second .opened) x) (some-injective m′ n z) h″))
                   (λ o. (m′, refl, h′ .id)) (sym d),
             )
 
--- A sweep of the schedule changes nothing.
-pub tidied : (cap : ℕ) (cs : List Cut) (ts : List Tally) (s : Store) (v : Inv cs ts s) (second : ℕ) → Allowed cs ts (sweepAt second)
-    → (saidOf (act cap cs s (sweepAt second)) ≡ dueOne cs ts (sweepAt second)) × Inv cs (note ts (sweepAt second)) (act cap cs s (sweepAt second) .store)
-unfolding act dueOne saidOf note
-tidied cap cs ts s v second young = (refl, subst (λ (x : Store). Inv cs ts x) (sym (sweep-same second s fresh)) v)
+-- A sweep that removes no open message changes nothing.
+pub unswept : (slots : ℕ) (cs : List Cut) (ts : List Tally) (s : Slots) → Inv slots cs ts s → (second : ℕ)
+    → ((c : ℕ) → isOpen (tallyAt ts c) ≡ true → second < tallyAt ts c .opened + 30) → slotsSweep second s ≡ s
+unswept slots cs ts s v second young = sweep-same second s fresh
   where
     fresh : (k : ℕ) (m : Message) → getD s k none ≡ some m → second < m .opened + 30
     fresh k m e =

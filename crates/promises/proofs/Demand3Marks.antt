@@ -50,7 +50,7 @@ pub any-replicate : (n : ℕ) → anyMark (replicate n false) ≡ false
 any-replicate zero = refl
 any-replicate (suc n) = any-replicate n
 
--- A table whose places are held as the marks say
+-- A table whose numbers are held as the marks say
 pub all-held : (t : List (List ℕ)) (bs : List Bool) → length bs ≤ length t → ((i : ℕ) → i < length bs → isHeld (getD t i []) ≡ getD bs i false) → allHeld (take (length bs) t) ≡ allMarks bs
 all-held t [] h e = refl
 all-held [] (b ∷ bs) h e = absurd (not-suc-le-zero h)

@@ -10,9 +10,13 @@ pub mod Demand2
 pub mod Demand2Calls
 pub mod Demand3Marks
 pub mod Demand3Rebuilt
-pub mod Demand3Places
+pub mod Demand3Slots
 pub mod Demand3Invariant
 pub mod Demand3
+pub mod NoGhost
 pub mod Demand3Calls
 pub mod Demand3Deliveries
+pub mod Demand3Tests
 pub mod Demand3Example
+pub mod Demand3CallsExample
+pub mod Demand3DeliveriesExample

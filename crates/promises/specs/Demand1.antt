@@ -114,23 +114,23 @@ StoreNewRefused = (rec : List ℕ) → Refuses (renewal rec) → (renewal rec �
 abbrev pub StoreStays : List ℕ → Lent → After → Type 0
 StoreStays numbers x y = OneOf numbers (y .reply .number) × (y ≡ after (y .reply) x)
 
--- a first piece: 50, 52 to 56, 59
+-- a first piece: 50, 52 to 57, 59
 abbrev pub FirstRefused : Type 0
 FirstRefused =
     (x : Lent) (l : Label) (second : ℕ) (v : List ℕ) → StoreRefuses (firstCall x l second v .reply .number)
-    → StoreStays (50 ∷ 52 ∷ 53 ∷ 54 ∷ 55 ∷ 56 ∷ 59 ∷ []) x (firstCall x l second v)
+    → StoreStays (50 ∷ 52 ∷ 53 ∷ 54 ∷ 55 ∷ 56 ∷ 57 ∷ 59 ∷ []) x (firstCall x l second v)
 
 -- a follow-on piece: these and 51
 abbrev pub FollowOnRefused : Type 0
 FollowOnRefused =
     (x : Lent) (l : Label) (second : ℕ) (v : List ℕ) → StoreRefuses (followOnCall x l second v .reply .number)
-    → StoreStays (50 ∷ 51 ∷ 52 ∷ 53 ∷ 54 ∷ 55 ∷ 56 ∷ 59 ∷ []) x (followOnCall x l second v)
+    → StoreStays (50 ∷ 51 ∷ 52 ∷ 53 ∷ 54 ∷ 55 ∷ 56 ∷ 57 ∷ 59 ∷ []) x (followOnCall x l second v)
 
 -- delivering the block at a place: the block's refusals or its piece's, all with the block's place, and record, room and assembly buffer stay
 abbrev pub DeliverRefused : Type 0
 DeliverRefused =
     (s : List ℕ) (at : ℕ) (x : Lent) (second : ℕ) → StoreRefuses (delivered s at x second (readAt s at) .received .number)
-    → OneOf (1 ∷ 2 ∷ 3 ∷ 4 ∷ 5 ∷ 6 ∷ 7 ∷ 8 ∷ 9 ∷ 50 ∷ 51 ∷ 52 ∷ 53 ∷ 54 ∷ 55 ∷ 56 ∷ 59 ∷ []) (delivered s at x second (readAt s at) .received .number)
+    → OneOf (1 ∷ 2 ∷ 3 ∷ 4 ∷ 5 ∷ 6 ∷ 7 ∷ 8 ∷ 9 ∷ 50 ∷ 51 ∷ 52 ∷ 53 ∷ 54 ∷ 55 ∷ 56 ∷ 57 ∷ 59 ∷ []) (delivered s at x second (readAt s at) .received .number)
     × (delivered s at x second (readAt s at) ≡ deliveryWith (nothing (delivered s at x second (readAt s at) .received .number) at) x)
 
 -- Demand 1: a part for each kind of call

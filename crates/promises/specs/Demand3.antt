@@ -1,4 +1,4 @@
--- Demand 3: messages that are cut and delivered in any mixture come out whole, each once, and leave the store empty.
+-- Demand 3, as request P5 words it: messages that are cut and delivered in any mixture come out whole, each once, and leave none open.
 use mathlib.Core.Path.{_≡_}
 use mathlib.Core.Bool.{Bool, true, false, cond, not, _&&_, _||_}
 use mathlib.Core.List.{List, [], _∷_, map}
@@ -6,8 +6,9 @@ use mathlib.Core.Option.{Option, none, some}
 use Prim.Native.Nat.{ℕ, zero, suc, _+_, _≤_, _<_}
 use lib.ListN.{length, getD, set, replicate}
 use lib.Dec.{eqb}
-use Rattle.reassembly.specs.Sizes.{messageSize}
-use Rattle.reassembly.specs.Store.{Piece, first, follow, Store, empty, Rebuilt, Answer, total, joined, step, sweep}
+use Rattle.reassembly.specs.Sizes.{messageSize, mostRemembered}
+use Rattle.reassembly.specs.Memory.{Memory, remembers, remember, forget}
+use Rattle.reassembly.specs.Store.{Piece, first, follow, Store, Rebuilt, Answer, total, joined, step, sweep}
 
 -- A message that was cut: its id, its head, and its pieces in order. The bytes it was cut from are `joined pieces`.
 pub record Cut : Type 0 where
@@ -77,77 +78,101 @@ isOpen t = begun t && not (done t)
 unfoldable pub marked : Tally → ℕ → ℕ → Tally
 marked t i second = record { marks = set (t .marks) i true; opened = cond (begun t) (t .opened) second }
 
--- The tally of a message of which nothing was delivered;
+-- The tally of a message of which nothing was delivered.
 unfoldable pub untouched : Cut → Tally
 untouched c = record { marks = replicate (length (c .pieces)) false; opened = 0 }
 
--- of all messages, before the first event;
-unfoldable pub start : List Cut → List Tally
-start cs = map untouched cs
+-- The tallies with piece i of message c delivered at a second.
+unfoldable pub tallied : List Tally → ℕ → ℕ → ℕ → List Tally
+tallied ts c i second = set ts c (marked (getD ts c noTally) i second)
 
--- and after an event.
-unfoldable pub note : List Tally → Event → List Tally
-note ts (deliver c i second) = set ts c (marked (getD ts c noTally) i second)
-note ts (sweepAt second) = ts
+-- What a schedule has come to: the tally of each message, and the finished messages that are remembered.
+pub record Past : Type 0 where
+  pub tallies : List Tally
+  pub remembered : Memory
+
+-- Before the first event: nothing was delivered, and some messages that finished before are remembered.
+abbrev pub start : List Cut → Memory → Past
+start cs fs = record { tallies = map untouched cs; remembered = fs }
+
+-- After an event: a finished message's piece changes nothing; the last missing piece makes its message remembered; a sweep forgets those that are due.
+unfoldable pub note : ℕ → List Cut → Past → Event → Past
+note keep cs h (deliver c i second) =
+    cond (done (getD (h .tallies) c noTally)) h
+    (record {
+      tallies = tallied (h .tallies) c i second;
+      remembered = cond (done (marked (getD (h .tallies) c noTally) i second)) (remember keep (h .remembered) (record { id = getD cs c noCut .id; second = second })) (h .remembered);
+    })
+note keep cs h (sweepAt second) = record { tallies = h .tallies; remembered = forget second (h .remembered) }
+
+-- After the last of some events.
+abbrev pub pastAfter : ℕ → List Cut → Past → List Event → Past
+pastAfter keep cs h [] = h
+pastAfter keep cs h (e ∷ es) = pastAfter keep cs (note keep cs h e) es
 
 -- how many elements of a list pass a test
 abbrev pub count : {A : Type 0} → (A → Bool) → List A → ℕ
 count f [] = 0
 count f (x ∷ xs) = cond (f x) 1 0 + count f xs
 
--- The rules of a schedule, of one event: a piece is one of a message that has not come out yet; a sweep removes no open message.
-abbrev pub Allowed : List Cut → List Tally → Event → Type 0
-Allowed cs ts (deliver c i second) = (c < length cs) × (i < length (getD cs c noCut .pieces)) × (done (getD ts c noTally) ≡ false)
-Allowed cs ts (sweepAt second) = (c : ℕ) → isOpen (getD ts c noTally) ≡ true → second < getD ts c noTally .opened + 30
+-- The rules of one event: a finished message's piece comes while its id is remembered; none is begun with a remembered id; a sweep removes no open message.
+abbrev pub Allowed : List Cut → Past → Event → Type 0
+Allowed cs h (deliver c i second) =
+    (c < length cs) × (i < length (getD cs c noCut .pieces))
+    × (done (getD (h .tallies) c noTally) ≡ true → remembers (h .remembered) (getD cs c noCut .id) ≡ true)
+    × (begun (getD (h .tallies) c noTally) ≡ false → remembers (h .remembered) (getD cs c noCut .id) ≡ false)
+Allowed cs h (sweepAt second) = (c : ℕ) → isOpen (getD (h .tallies) c noTally) ≡ true → second < getD (h .tallies) c noTally .opened + 30
 
--- After it: never more than 16 are open, and no two open ones have one id.
-pub record Orderly (cs : List Cut) (ts : List Tally) : Type 0 where
-  pub at-most : count isOpen ts ≤ 16
+-- After it: never more are open than there are slots, and no two open ones have one id.
+pub record Orderly (slots : ℕ) (cs : List Cut) (ts : List Tally) : Type 0 where
+  pub at-most : count isOpen ts ≤ slots
   pub own-id : (a b : ℕ) → isOpen (getD ts a noTally) ≡ true → isOpen (getD ts b noTally) ≡ true → getD cs a noCut .id ≡ getD cs b noCut .id → a ≡ b
 
 -- A schedule keeps them at every event, and at its end every piece of every message was delivered.
-abbrev pub Schedule : List Cut → List Tally → List Event → Type 0
-Schedule cs ts [] = (c : ℕ) → c < length cs → done (getD ts c noTally) ≡ true
-Schedule cs ts (e ∷ es) = Allowed cs ts e × Orderly cs (note ts e) × Schedule cs (note ts e) es
+abbrev pub Schedule : ℕ → ℕ → List Cut → Past → List Event → Type 0
+Schedule slots keep cs h [] = (c : ℕ) → c < length cs → done (getD (h .tallies) c noTally) ≡ true
+Schedule slots keep cs h (e ∷ es) = Allowed cs h e × Orderly slots cs (note keep cs h e .tallies) × Schedule slots keep cs (note keep cs h e) es
 
 -- What is said at an event: a number, and perhaps a message.
 pub record Said : Type 0 where
   pub number : ℕ
   pub out : Option Rebuilt
 
--- What the demand says of each event: a repeat is 54; the last missing piece brings its message out; any other piece is kept.
+-- What the demand says of an event: a finished message's piece is 57, another repeat 54; the last missing piece brings its message out; any other is kept.
 unfoldable pub dueOne : List Cut → List Tally → Event → Said
 dueOne cs ts (deliver c i second) =
-    cond (getD (getD ts c noTally .marks) i false)
+    cond (done (getD ts c noTally))
+    (record { number = 57; out = none })
+    (cond (getD (getD ts c noTally .marks) i false)
     (record { number = 54; out = none })
     (cond (done (marked (getD ts c noTally) i second))
     (record { number = 60; out = some (cutFrom (getD cs c noCut)) })
-    (record { number = 0; out = none }))
+    (record { number = 0; out = none })))
 dueOne cs ts (sweepAt second) = record { number = 0; out = none }
 
 -- the same of all events, one after the other
-abbrev pub due : List Cut → List Tally → List Event → List Said
-due cs ts [] = []
-due cs ts (e ∷ es) = dueOne cs ts e ∷ due cs (note ts e) es
+abbrev pub due : ℕ → List Cut → Past → List Event → List Said
+due keep cs h [] = []
+due keep cs h (e ∷ es) = dueOne cs (h .tallies) e ∷ due keep cs (note keep cs h e) es
 
--- What the store answers to an event, and what it becomes
-unfoldable pub act : ℕ → List Cut → Store → Event → Answer
-act cap cs s (deliver c i second) = step cap s (pieceOf (getD cs c noCut) i) second
-act cap cs s (sweepAt second) = record { number = 0; out = none; store = sweep second s }
+-- What the store answers to an event, and what it becomes.
+unfoldable pub act : ℕ → ℕ → List Cut → Store → Event → Answer
+act keep cap cs s (deliver c i second) = step keep cap s (pieceOf (getD cs c noCut) i) second
+act keep cap cs s (sweepAt second) = record { number = 0; out = none; store = sweep second s }
 
 -- an answer without the store
 unfoldable pub saidOf : Answer → Said
 saidOf a = record { number = a .number; out = a .out }
 
 -- what the store says, event after event
-abbrev pub said : ℕ → List Cut → Store → List Event → List Said
-said cap cs s [] = []
-said cap cs s (e ∷ es) = saidOf (act cap cs s e) ∷ said cap cs (act cap cs s e .store) es
+abbrev pub said : ℕ → ℕ → List Cut → Store → List Event → List Said
+said keep cap cs s [] = []
+said keep cap cs s (e ∷ es) = saidOf (act keep cap cs s e) ∷ said keep cap cs (act keep cap cs s e .store) es
 
 -- the store after the last of them
-abbrev pub storeAfter : ℕ → List Cut → Store → List Event → Store
-storeAfter cap cs s [] = s
-storeAfter cap cs s (e ∷ es) = storeAfter cap cs (act cap cs s e .store) es
+abbrev pub storeAfter : ℕ → ℕ → List Cut → Store → List Event → Store
+storeAfter keep cap cs s [] = s
+storeAfter keep cap cs s (e ∷ es) = storeAfter keep cap cs (act keep cap cs s e .store) es
 
 -- one where an event is a piece of message c that was answered by 60
 abbrev pub timesOne : ℕ → Event → Said → ℕ
@@ -160,16 +185,22 @@ times c [] rs = 0
 times c (e ∷ es) [] = 0
 times c (e ∷ es) (r ∷ rs) = timesOne c e r + times c es rs
 
--- The outcome of a schedule: every event is answered as is due, every message came out once, and the store is empty again.
-pub record Fulfilled (cap : ℕ) (cs : List Cut) (es : List Event) : Type 0 where
-  pub as-due : said cap cs empty es ≡ due cs (start cs) es
-  pub once : (c : ℕ) → c < length cs → times c es (said cap cs empty es) ≡ 1
-  pub ends-empty : storeAfter cap cs empty es ≡ empty
+-- The outcome: every event is answered as is due, every message came out once, none is open at the end, and what is remembered is what the schedule says.
+pub record Fulfilled (slots keep cap : ℕ) (cs : List Cut) (s : Store) (es : List Event) : Type 0 where
+  pub as-due : said keep cap cs s es ≡ due keep cs (start cs (s .remembered)) es
+  pub once : (c : ℕ) → c < length cs → times c es (said keep cap cs s es) ≡ 1
+  pub ends-empty : storeAfter keep cap cs s es .slots ≡ replicate slots none
+  pub remembers-due : storeAfter keep cap cs s es .remembered ≡ pastAfter keep cs (start cs (s .remembered)) es .remembered
+
+-- Demand 3, for any number of slots and of remembered messages: on every store in which no message is open, whatever it remembers
+abbrev pub Demand3For : ℕ → ℕ → Type 0
+Demand3For slots keep =
+    (cap : ℕ) → messageSize ≤ cap
+    → (cs : List Cut) → ((c : ℕ) → c < length cs → Within (getD cs c noCut))
+    → (s : Store) → s .slots ≡ replicate slots none
+    → (es : List Event) → Schedule slots keep cs (start cs (s .remembered)) es
+    → Fulfilled slots keep cap cs s es
 
 -- Demand 3
 abbrev pub Demand3 : Type 0
-Demand3 =
-    (cap : ℕ) → messageSize ≤ cap
-    → (cs : List Cut) → ((c : ℕ) → c < length cs → Within (getD cs c noCut))
-    → (es : List Event) → Schedule cs (start cs) es
-    → Fulfilled cap cs es
+Demand3 = Demand3For 16 mostRemembered

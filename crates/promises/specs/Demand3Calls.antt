@@ -4,12 +4,13 @@ use mathlib.Core.Path.{_≡_}
 use mathlib.Core.List.{List, [], _∷_, map}
 use Prim.Native.Nat.{ℕ, suc, _≤_, _<_}
 use lib.ListN.{length, getD, replicate}
-use Rattle.reassembly.specs.Sizes.{messageSize, roomSize, recordSize}
+use Rattle.reassembly.specs.Sizes.{messageSize, roomSize, mostRemembered, recordSize}
 use Rattle.reassembly.specs.declared.Reply.{Reply}
-use Rattle.reassembly.specs.Store.{Piece, first, follow, empty}
+use Rattle.reassembly.specs.Store.{Piece, first, follow, empty, newStore}
+use Rattle.reassembly.specs.Remembered.{memoryOf}
 use Rattle.reassembly.specs.Calls.{Lent, lent, After, after, bare, firstCall, followOnCall, swept, renewed}
-use Rattle.reassembly.specs.Stands.{stands, Made, labelOf, replyFor, laidOut}
-use Rattle.promises.specs.Demand3.{Cut, Within, pieceOf, noCut, Event, deliver, sweepAt, start, Schedule, Said, due, times}
+use Rattle.reassembly.specs.Stands.{slotsOf, stands, Made, labelOf, replyFor, laidOut}
+use Rattle.promises.specs.Demand3.{Cut, Within, pieceOf, noCut, Event, deliver, sweepAt, Past, start, pastAfter, Schedule, Said, due, times}
 
 -- a piece arrives: the call for it, and what it leaves
 unfoldable pub pieceCall : Lent → Piece → ℕ → After
@@ -52,39 +53,53 @@ pub record ScheduleInWidth (cs : List Cut) (es : List Event) : Type 0 where
   pub expirations : (c : ℕ) → getD cs c noCut .expires < 4294967296
   pub seconds : (n : ℕ) → secondOf (getD es n (sweepAt 0)) < 18446744073709551616
 
--- Every call is answered as is due, leaves its assembly buffer as is due, every message came out once, and the record and the room are again what calls made, and stand for the empty store.
+-- a schedule begins with what the record remembers
+abbrev pub startAt : List Cut → List ℕ → Past
+startAt cs rec = start cs (memoryOf rec)
+
+-- what is due of its events
+abbrev pub dueAt : List Cut → List ℕ → List Event → List Said
+dueAt cs rec es = due mostRemembered cs (startAt cs rec) es
+
+-- the rules that it keeps
+abbrev pub ScheduleAt : List Cut → List ℕ → List Event → Type 0
+ScheduleAt cs rec es = Schedule 16 mostRemembered cs (startAt cs rec) es
+
+-- Every call is answered as is due, leaves its assembly buffer as is due, every message came out once, the record and the room are again what calls made, no message
+-- is open in them, and what the record remembers is what the schedule says.
 pub record FulfilledByCalls (cs : List Cut) (outs : ℕ → List ℕ) (rec room : List ℕ) (es : List Event) : Type 0 where
-  pub replies : map (λ x. x .reply) (afterEach cs outs 0 rec room es) ≡ map replyDue (due cs (start cs) es)
-  pub buffers : map (λ x. x .left .out) (afterEach cs outs 0 rec room es) ≡ buffersDue outs 0 (due cs (start cs) es)
-  pub once : (c : ℕ) → c < length cs → times c es (due cs (start cs) es) ≡ 1
-  pub ends-empty : stands (afterLast cs outs 0 rec room es .rec) (afterLast cs outs 0 rec room es .room) ≡ empty
+  pub replies : map (λ x. x .reply) (afterEach cs outs 0 rec room es) ≡ map replyDue (dueAt cs rec es)
+  pub buffers : map (λ x. x .left .out) (afterEach cs outs 0 rec room es) ≡ buffersDue outs 0 (dueAt cs rec es)
+  pub once : (c : ℕ) → c < length cs → times c es (dueAt cs rec es) ≡ 1
+  pub ends-empty : slotsOf (afterLast cs outs 0 rec room es .rec) (afterLast cs outs 0 rec room es .room) ≡ empty
+  pub remembers-due : memoryOf (afterLast cs outs 0 rec room es .rec) ≡ pastAfter mostRemembered cs (startAt cs rec) es .remembered
   pub made : Made (afterLast cs outs 0 rec room es .rec) (afterLast cs outs 0 rec room es .room)
 
 -- each call is lent an assembly buffer of 65,535 bytes or more
 abbrev pub LongEnough : (ℕ → List ℕ) → Type 0
 LongEnough outs = (n : ℕ) → messageSize ≤ length (outs n)
 
--- Demand 3, of the calls: on every record and room that calls made and that stand for the empty store
+-- Demand 3, of the calls: on every record and room that calls made and in which no message is open, whatever is remembered
 abbrev pub Demand3Calls : Type 0
 Demand3Calls =
     (outs : ℕ → List ℕ) → LongEnough outs
-    → (rec room : List ℕ) → Made rec room → stands rec room ≡ empty
+    → (rec room : List ℕ) → Made rec room → slotsOf rec room ≡ empty
     → (cs : List Cut) → ((c : ℕ) → c < length cs → Within (getD cs c noCut))
-    → (es : List Event) → ScheduleInWidth cs es → Schedule cs (start cs) es
+    → (es : List Event) → ScheduleInWidth cs es → ScheduleAt cs rec es
     → FulfilledByCalls cs outs rec room es
 
 -- Records and rooms that meet its premises: a new record, and one of zeros, with any room of the lent length;
 pub record StoreStarts : Type 0 where
-  pub new : (rec room : List ℕ) → recordSize ≤ length rec → roomSize ≤ length room → Made (renewed rec) room × (stands (renewed rec) room ≡ empty)
-  pub zero-filled : (n : ℕ) (room : List ℕ) → recordSize ≤ n → roomSize ≤ length room → Made (replicate n 0) room × (stands (replicate n 0) room ≡ empty)
+  pub new : (rec room : List ℕ) → recordSize ≤ length rec → roomSize ≤ length room → Made (renewed rec) room × (stands (renewed rec) room ≡ newStore)
+  pub zero-filled : (n : ℕ) (room : List ℕ) → recordSize ≤ n → roomSize ≤ length room → Made (replicate n 0) room × (stands (replicate n 0) room ≡ newStore)
 
--- and what a schedule left: another may follow, with messages and assembly buffers of its own.
+-- and what a schedule left: another may follow, with messages and assembly buffers of its own, that begins with what is remembered then.
 abbrev pub Demand3Again : Type 0
 Demand3Again =
     (outs outs′ : ℕ → List ℕ) → LongEnough outs′
     → (rec room : List ℕ) (cs : List Cut) (es : List Event) → FulfilledByCalls cs outs rec room es
     → (ds : List Cut) → ((c : ℕ) → c < length ds → Within (getD ds c noCut))
-    → (fs : List Event) → ScheduleInWidth ds fs → Schedule ds (start ds) fs
+    → (fs : List Event) → ScheduleInWidth ds fs → ScheduleAt ds (afterLast cs outs 0 rec room es .rec) fs
     → FulfilledByCalls ds outs′ (afterLast cs outs 0 rec room es .rec) (afterLast cs outs 0 rec room es .room) fs
 
 -- Demand 3 of the calls that follow strawhub_store_new, whatever the record held
@@ -93,5 +108,5 @@ Demand3New =
     (outs : ℕ → List ℕ) → LongEnough outs
     → (rec room : List ℕ) → recordSize ≤ length rec → roomSize ≤ length room
     → (cs : List Cut) → ((c : ℕ) → c < length cs → Within (getD cs c noCut))
-    → (es : List Event) → ScheduleInWidth cs es → Schedule cs (start cs) es
+    → (es : List Event) → ScheduleInWidth cs es → Schedule 16 mostRemembered cs (start cs []) es
     → FulfilledByCalls cs outs (renewed rec) room es

@@ -1,7 +1,7 @@
 -- Demand 3 of the payloads' blocks: the schedules of specs/Demand3.antt, each piece a block of a payload that is handed to strawhub_block_deliver, each sweep a strawhub_store_sweep.
 -- `deliverCall` and `swept` are what the contracts of these calls say of every payload, place, record, room, buffer and six numbers.
 use mathlib.Core.Path.{_≡_}
-use mathlib.Core.Bool.{true, cond}
+use mathlib.Core.Bool.{Bool, true, cond, _||_}
 use mathlib.Core.List.{List, [], _∷_}
 use mathlib.Core.Option.{Option, none, some}
 use Prim.Native.Nat.{ℕ, suc, _≤_, _<_}
@@ -15,14 +15,16 @@ use Rattle.blocks.specs.declared.Read.the-variants as Got
 use Rattle.blocks.specs.Extent.{isI2npType}
 use Rattle.blocks.specs.Reading.{bytesAt, readAt}
 use Rattle.blocks.specs.Writing.{roomAfter}
+use Rattle.reassembly.specs.Sizes.{mostRemembered}
 use Rattle.reassembly.specs.Store.{Piece, first, follow, pieceBytes, Rebuilt, empty}
+use Rattle.reassembly.specs.Remembered.{memoryOf}
 use Rattle.reassembly.specs.Calls.{Lent, lent, swept}
-use Rattle.reassembly.specs.Stands.{stands, Made, laidOut}
+use Rattle.reassembly.specs.Stands.{slotsOf, Made, laidOut}
 use Rattle.numbers_outcomes.specs.declared.Outcome.{Outcome}
 use Rattle.numbers_outcomes.specs.Outcomes.{outcome}
 use Rattle.numbers_outcomes.specs.Deliveries.{Told, toldWith, deliverCall}
-use Rattle.promises.specs.Demand3.{Cut, Within, pieceOf, noCut, Event, deliver, sweepAt, start, Schedule, Said, due, times}
-use Rattle.promises.specs.Demand3Calls.{ScheduleInWidth, LongEnough}
+use Rattle.promises.specs.Demand3.{Cut, Within, pieceOf, noCut, Event, deliver, sweepAt, pastAfter, Said, times}
+use Rattle.promises.specs.Demand3Calls.{ScheduleInWidth, startAt, dueAt, ScheduleAt, LongEnough}
 
 -- a payload has a block at a place, whose part of the payload has these bytes
 pub record HasBlock (s : List ℕ) (at : ℕ) (block : Part → Block) (bytes : List ℕ) : Type 0 where
@@ -80,18 +82,22 @@ abbrev pub handedLast : (ℕ → Loan) → ℕ → List ℕ → List ℕ → Lis
 handedLast loans n rec room [] = lent rec room []
 handedLast loans n rec room (e ∷ es) = handedLast loans (suc n) (handed (loans n) rec room e .left .rec) (handed (loans n) rec room e .left .room) es
 
--- the number and value that are due: 54 with the block's place, else the number and 0
+-- 54 and 57, the refusals that a schedule meets
+abbrev pub isRepeat : Said → Bool
+isRepeat d = eqb (d .number) 54 || eqb (d .number) 57
+
+-- the number and value that are due: a repeat's number with the block's place, else the number and 0
 unfoldable pub outcomeDue : ℕ → Said → Outcome
-outcomeDue at d = cond (eqb (d .number) 54) (outcome 54 at) (outcome (d .number) 0)
+outcomeDue at d = cond (isRepeat d) (outcome (d .number) at) (outcome (d .number) 0)
 
 -- six zeros; or 2, the assembly buffer, with type, id, expiration, place 0 and length
 unfoldable pub toldOf : ℕ → Option Rebuilt → List ℕ
 toldOf id none = 0 ∷ 0 ∷ 0 ∷ 0 ∷ 0 ∷ 0 ∷ []
 toldOf id (some w) = 2 ∷ w .kind ∷ id ∷ w .expires ∷ 0 ∷ length (w .bytes) ∷ []
 
--- the six numbers that are due: as they were lent at 54
+-- the six numbers that are due: as they were lent at a repeat
 unfoldable pub toldDue : ℕ → List ℕ → Said → List ℕ
-toldDue id told d = cond (eqb (d .number) 54) told (toldOf id (d .out))
+toldDue id told d = cond (isRepeat d) told (toldOf id (d .out))
 
 -- all that is due of an event; a sweep answers 0, and is lent neither buffer nor numbers
 unfoldable pub tellsDue : List Cut → Loan → Event → Said → Tells
@@ -104,20 +110,22 @@ allDue cs loans n [] ds = []
 allDue cs loans n (e ∷ es) [] = []
 allDue cs loans n (e ∷ es) (d ∷ ds) = tellsDue cs (loans n) e d ∷ allDue cs loans (suc n) es ds
 
--- Every call tells what is due, every message came out once, and the record and the room are again what calls made, and stand for the empty store.
+-- Every call tells what is due, every message came out once, the record and the room are again what calls made, no message is open in them, and what the record
+-- remembers is what the schedule says.
 pub record FulfilledByDeliveries (cs : List Cut) (loans : ℕ → Loan) (rec room : List ℕ) (es : List Event) : Type 0 where
-  pub tells : tellings loans 0 rec room es ≡ allDue cs loans 0 es (due cs (start cs) es)
-  pub once : (c : ℕ) → c < length cs → times c es (due cs (start cs) es) ≡ 1
-  pub ends-empty : stands (handedLast loans 0 rec room es .rec) (handedLast loans 0 rec room es .room) ≡ empty
+  pub tells : tellings loans 0 rec room es ≡ allDue cs loans 0 es (dueAt cs rec es)
+  pub once : (c : ℕ) → c < length cs → times c es (dueAt cs rec es) ≡ 1
+  pub ends-empty : slotsOf (handedLast loans 0 rec room es .rec) (handedLast loans 0 rec room es .room) ≡ empty
+  pub remembers-due : memoryOf (handedLast loans 0 rec room es .rec) ≡ pastAfter mostRemembered cs (startAt cs rec) es .remembered
   pub made : Made (handedLast loans 0 rec room es .rec) (handedLast loans 0 rec room es .room)
 
 -- Demand 3, of the payloads' blocks
 abbrev pub Demand3Deliveries : Type 0
 Demand3Deliveries =
     (loans : ℕ → Loan) → LongEnough (λ n. loans n .out)
-    → (rec room : List ℕ) → Made rec room → stands rec room ≡ empty
+    → (rec room : List ℕ) → Made rec room → slotsOf rec room ≡ empty
     → (cs : List Cut) → ((c : ℕ) → c < length cs → Within (getD cs c noCut))
-    → (es : List Event) → ScheduleInWidth cs es → Handed cs loans 0 es → Schedule cs (start cs) es
+    → (es : List Event) → ScheduleInWidth cs es → Handed cs loans 0 es → ScheduleAt cs rec es
     → FulfilledByDeliveries cs loans rec room es
 
 -- a piece as a block to be written; `pieceBytes` are written after its fields

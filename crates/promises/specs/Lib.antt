@@ -7,5 +7,6 @@ pub mod Demand1Calls
 pub mod Demand2
 pub mod Demand2Calls
 pub mod Demand3
+pub mod NoGhost
 pub mod Demand3Calls
 pub mod Demand3Deliveries

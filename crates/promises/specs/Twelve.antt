@@ -45,7 +45,7 @@ Holds (expands s t c size next pairs names) =
     (readAt s 0 ≡ Got.Block (Body.Ack t c (bytesAt 8 (length pairs))) size next) × (part s 8 (length pairs) ≡ pairs) × (ackNumbers t c pairs ≡ names)
 Holds (reports calls through runs) = reportAfter calls ≡ reportOfRuns through runs
 Holds (registers n answer) = registerOf fresh n .answer ≡ answer
-Holds (rebuilds ps answers) = Store.stepNumbers Store.empty ps ≡ answers
+Holds (rebuilds ps answers) = Store.stepNumbers Store.newStore ps ≡ answers
 
 -- (a) `00 0000 00000007`: time 7
 abbrev pub caseA : Case

@@ -10,13 +10,14 @@ use lib.ListN.{length, getD, replicate}
 use borrow.Author.Tests.{ne-eqb, le-ltb, ltb-true}
 use Rattle.wire.specs.Parts.{part}
 use Rattle.wire.proofs.Parts.{part-none}
+use Rattle.reassembly.specs.Series.{series}
 use Rattle.reassembly.specs.Sizes.{recordSize}
 use Rattle.reassembly.specs.declared.Entry.{Entry}
 use Rattle.reassembly.specs.declared.Label.{Label}
 use Rattle.reassembly.specs.Store.{Piece, idOf, Message, isHeld, total, messageOr}
 use Rattle.reassembly.specs.Record.{cleared, roomOf, pieceAt}
 use Rattle.reassembly.specs.Judge.{pick, misfits, moreOf, grownBy, isComplete, newHead}
-use Rattle.reassembly.specs.Stands.{series, tableAt, messageWith, heldOf, Fine, labelOf}
+use Rattle.reassembly.specs.Stands.{tableAt, messageWith, heldOf, Fine, labelOf}
 use Rattle.reassembly.proofs.Series.{series-same}
 use Rattle.reassembly.proofs.Written.{cleared-entry}
 use Rattle.reassembly.proofs.Answers.{label-id}

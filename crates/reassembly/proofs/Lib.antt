@@ -17,7 +17,16 @@ pub mod Refines
 pub mod Fresh
 pub mod Steps
 pub mod Sweeps
-pub mod Agreed
+pub mod MemoryStays
+pub mod Memories
+pub mod Moves
+pub mod Aparts
+pub mod Readings
+pub mod Fronts
+pub mod Remembered
+pub mod Forgotten
+pub mod Taken
+pub mod Swept
 pub mod Refusals
 pub mod Refused
 pub mod Brought

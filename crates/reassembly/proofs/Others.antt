@@ -18,7 +18,7 @@ use Rattle.reassembly.specs.Record.{headAt, withHead, entryAt, withEntry
 use Rattle.reassembly.specs.Slots.{isFree}
 use Rattle.reassembly.specs.Judge.{noHead}
 use Rattle.reassembly.specs.Calls.{keptRec, keptRoom}
-use Rattle.reassembly.specs.Stands.{tableAt, messageWith, slotAt, stands, Fine, Made}
+use Rattle.reassembly.specs.Stands.{tableAt, messageWith, slotAt, slotsOf, Fine, SlotsMade}
 use Rattle.reassembly.proofs.Fields.{HeadFits}
 use Rattle.reassembly.proofs.Series.{series-same, series-set}
 use Rattle.reassembly.proofs.Written.{head-same, head-other, head-entry, length-entry, entry-other, entry-head, cleared-head, cleared-other, kept-other}
@@ -48,7 +48,7 @@ module _ (rec room rec′ room′ : List ℕ) (j : ℕ) (es : (k : ℕ) → k < 
           (ap (λ (z : List ℕ). part z (entryAt rec′ j k .place) (entryAt rec′ j k .len)) rs
           ∙ ap (λ (e : Entry). part (roomOf room j) (e .place) (e .len)) (es k h))
 
-  fine-same : (h : Head) → Fine h rec room j → Fine h rec′ room′ j
+  pub fine-same : (h : Head) → Fine h rec room j → Fine h rec′ room′ j
   fine-same h f =
       record {
         id = f .id;
@@ -74,16 +74,16 @@ pub free-same : (rec rec′ : List ℕ) (j : ℕ) → headAt rec′ j ≡ headAt
 unfolding isFree
 free-same rec rec′ j h = ap (λ (x : Head). eqb (x .count) 0) (sym h)
 
-module _ (rec room rec′ room′ : List ℕ) (i : ℕ) (m : Made rec room) (lr : recordSize ≤ length rec′) (lm : roomSize ≤ length room′) (hi : i < 16)
+module _ (rec room rec′ room′ : List ℕ) (i : ℕ) (m : SlotsMade rec room) (lr : recordSize ≤ length rec′) (lm : roomSize ≤ length room′) (hi : i < 16)
     (o : Others rec room rec′ room′ i) where
   -- the store with another message, or none, in slot i
-  pub stands-with : (x : Option Message) → slotAt rec′ room′ i ≡ x → stands rec′ room′ ≡ set (stands rec room) i x
-  unfolding stands
+  pub stands-with : (x : Option Message) → slotAt rec′ room′ i ≡ x → slotsOf rec′ room′ ≡ set (slotsOf rec room) i x
+  unfolding slotsOf
   stands-with x e =
       series-set (slotAt rec room) (slotAt rec′ room′) 16 i x none hi e
       (λ j hj q. slot-same rec room rec′ room′ j (λ k hk. o .entries j k hj q hk) (o .rooms j hj q) (o .heads j hj q))
 
-  pub made-with : (isFree rec′ i ≡ false → Fine (headAt rec′ i) rec′ room′ i) → Made rec′ room′
+  pub made-with : (isFree rec′ i ≡ false → Fine (headAt rec′ i) rec′ room′ i) → SlotsMade rec′ room′
   made-with f = record { record-long = lr; room-long = lm; slots = λ j hj e. go j hj e (ℕ-discrete j i) }
     where
       go : (j : ℕ) → j < 16 → isFree rec′ j ≡ false → Dec (j ≡ i) → Fine (headAt rec′ j) rec′ room′ j

@@ -12,13 +12,14 @@ use borrow.Author.Tests.{ne-eqb, lt-ltb, le-ltb, ltb-false, lt-leb}
 use Rattle.reassembly.specs.Sizes.{messageSize, roomSize, recordSize}
 use Rattle.reassembly.specs.declared.Head.{Head}
 use Rattle.reassembly.specs.declared.Label.{Label}
-use Rattle.reassembly.specs.Store.{Piece, pieceBytes, Message, Store, Answer, isHeld, joined, plus, badLength, badNumber, repeats, clashes, tooMuch, complete, rebuiltOf, tooShort, refused, answer}
+use Rattle.reassembly.specs.Series.{series}
+use Rattle.reassembly.specs.Store.{Piece, pieceBytes, Message, Slots, Rebuilt, SlotsAnswer, isHeld, joined, plus, badLength, badNumber, repeats, clashes, tooMuch, complete, rebuiltOf, tooShort, slotsRefuse, answer}
 use Rattle.reassembly.specs.Record.{headAt, withHead, pieceAt}
 use Rattle.reassembly.specs.Slots.{isFree}
 use Rattle.reassembly.specs.Judge.{misfits, moreOf, grownBy, isComplete, noHead}
 use Rattle.reassembly.specs.Joining.{pieceOr, joinedBelow, messageOf, joinsOutside}
-use Rattle.reassembly.specs.Calls.{lent, after, bare, keptRec, keptRoom, finished}
-use Rattle.reassembly.specs.Stands.{series, tableAt, messageWith, slotAt, stands, Fine, Made, labelOf, replyFor, laidOut, Agrees}
+use Rattle.reassembly.specs.Calls.{lent, After, after, bare, keptRec, keptRoom, finished}
+use Rattle.reassembly.specs.Stands.{tableAt, messageWith, slotAt, slotsOf, Fine, SlotsMade, labelOf, replyFor, laidOut}
 use Rattle.reassembly.proofs.Branches.{good-size}
 use Rattle.reassembly.proofs.Joined.{piece-given, piece-held}
 use Rattle.reassembly.proofs.Series.{series-set}
@@ -29,10 +30,23 @@ use Rattle.reassembly.proofs.Others.{Others, others-both, others-head, 
 use Rattle.reassembly.proofs.Answers.{number-small, repeats-free, clashes-free, too-much, good-length, plus-is}
 use Rattle.reassembly.proofs.Stores as Stores
 
+-- A call did to record, room and assembly buffer what the slots' answer says, and left slots that meet their invariant.
+pub record SlotsAgree (out : List ℕ) (x : After) (a : SlotsAnswer) : Type 0 where
+  pub reply : x .reply ≡ replyFor (a .number) (a .out)
+  pub delivered : x .left .out ≡ laidOut out (a .out)
+  pub slots : slotsOf (x .left .rec) (x .left .room) ≡ a .slots
+  pub made : SlotsMade (x .left .rec) (x .left .room)
+
+-- a reply has the answer's number
+pub number-of : (n : ℕ) (o : Option Rebuilt) → replyFor n o .number ≡ n
+unfolding replyFor bare
+number-of n none = refl
+number-of n (some w) = refl
+
 -- a refusal changes nothing
-pub refusal : (rec room out : List ℕ) (n : ℕ) → Made rec room → Agrees out (after (bare n) (lent rec room out)) (refused n (stands rec room))
-unfolding refused replyFor laidOut
-refusal rec room out n m = record { reply = refl; delivered = refl; store = refl; made = m }
+pub refusal : (rec room out : List ℕ) (n : ℕ) → SlotsMade rec room → SlotsAgree out (after (bare n) (lent rec room out)) (slotsRefuse n (slotsOf rec room))
+unfolding slotsRefuse replyFor laidOut
+refusal rec room out n m = record { reply = refl; delivered = refl; slots = refl; made = m }
 
 more-positive : (c : ℕ) → eqb (moreOf c) 0 ≡ false
 unfolding moreOf
@@ -50,7 +64,7 @@ size-of p e = let q = good-size (length (pieceBytes p)) (sym (good-length p) ∙
 module _ (h : Head) (rec room : List ℕ) (i : ℕ) (f : Fine h rec room i) (rlong : recordSize ≤ length rec) (long : roomSize ≤ length room) (hi : i < 16)
     (p : Piece) (gl : badLength p ≡ false) (gn : badNumber p ≡ false) (lx : labelOf p .expires < 4294967296)
     (free : isHeld (getD (tableAt rec room i) (labelOf p .number) []) ≡ false) (ok : misfits h (labelOf p) ≡ false)
-    (out : List ℕ) (s : Store) where
+    (out : List ℕ) (s : Slots) (in-s : i < length s) where
   abbrev l : Label
   l = labelOf p
 
@@ -69,15 +83,13 @@ module _ (h : Head) (rec room : List ℕ) (i : ℕ) (f : Fine h rec room i) (rlo
   abbrev room′ : List ℕ
   room′ = keptRoom room i (h .total) v
 
-  pub answer-53 : messageSize < h .total + length v → answer (length out) s p i m ≡ refused 53 s
+  pub answer-53 : messageSize < h .total + length v → answer (length out) s p i m ≡ slotsRefuse 53 s
   unfolding answer
   answer-53 t =
       rw (
-        gl,
-        gn,
         repeats-free h rec room i f long hi p gn free,
         clashes-free h rec room i f long hi p gn free ∙ ok,
-        lt-leb 16 i hi,
+        lt-leb (length s) i in-s,
         too-much h rec room i f long hi p gn ∙ lt-ltb messageSize (h .total + length v) t,
       ) refl
 
@@ -135,12 +147,12 @@ module _ (h : Head) (rec room : List ℕ) (i : ℕ) (f : Fine h rec room i) (rlo
     few : tooMuch m p ≡ false
     few = too-much h rec room i f long hi p gn ∙ le-ltb messageSize (h .total + length v) fits
 
-    pub answer-kept : isComplete g ≡ false → answer (length out) s p i m ≡ record { number = 0; out = none; store = set s i (some (plus m p)) }
-    answer-kept w = Stores.answer-kept (length out) s p i m gl gn no-repeat no-clash hi few (whole-is ∙ w)
+    pub answer-kept : isComplete g ≡ false → answer (length out) s p i m ≡ record { number = 0; out = none; slots = set s i (some (plus m p)) }
+    answer-kept w = Stores.answer-kept (length out) s p i m no-repeat no-clash in-s few (whole-is ∙ w)
 
     answer-whole : isComplete g ≡ true → answer (length out) s p i m
-        ≡ cond (tooShort (length out) (plus m p)) (refused 56 s) (record { number = 60; out = some (rebuiltOf (plus m p)); store = set s i none })
-    answer-whole w = Stores.answer-whole (length out) s p i m gl gn no-repeat no-clash hi few (whole-is ∙ w)
+        ≡ cond (tooShort (length out) (plus m p)) (slotsRefuse 56 s) (record { number = 60; out = some (rebuiltOf (plus m p)); slots = set s i none })
+    answer-whole w = Stores.answer-whole (length out) s p i m no-repeat no-clash in-s few (whole-is ∙ w)
 
     short-is : tooShort (length out) (plus m p) ≡ ltb (length out) (length (messageOf rec room i (l .number) v (g .last + 1)))
     unfolding tooShort
@@ -157,15 +169,15 @@ module _ (h : Head) (rec room : List ℕ) (i : ℕ) (f : Fine h rec room i) (rlo
         count-is = unfold grownBy in more-positive (h .count)
 
     -- the piece is kept, in a record that differs from one that calls made in slot i alone
-    pub kept-agrees : (rec₀ : List ℕ) → Made rec₀ room → Others rec₀ room rec room i
-        → Agrees out (after (bare 0) (lent rec′ room′ out)) (record { number = 0; out = none; store = set (stands rec₀ room) i (some (plus m p)) })
+    pub kept-agrees : (rec₀ : List ℕ) → SlotsMade rec₀ room → Others rec₀ room rec room i
+        → SlotsAgree out (after (bare 0) (lent rec′ room′ out)) (record { number = 0; out = none; slots = set (slotsOf rec₀ room) i (some (plus m p)) })
     unfolding replyFor laidOut
     kept-agrees rec₀ made o =
         let o′ : Others rec₀ room rec′ room′ i = others-both rec₀ room rec room rec′ room′ i o (others-kept rec room i (l .number) (h .total) v g rlong long hi (number-small p gn) fits) in
         record {
           reply = refl;
           delivered = refl;
-          store = stands-with rec₀ room rec′ room′ i made long-rec′ long-room′ hi o′ (some (plus m p)) slot-kept;
+          slots = stands-with rec₀ room rec′ room′ i made long-rec′ long-room′ hi o′ (some (plus m p)) slot-kept;
           made = made-with rec₀ room rec′ room′ i made long-rec′ long-room′ hi o′ (λ e. subst (λ (x : Head). Fine x rec′ room′ i) (sym head′) fine′);
         }
 
@@ -174,17 +186,17 @@ module _ (h : Head) (rec room : List ℕ) (i : ℕ) (f : Fine h rec room i) (rlo
     joins = joins-inside h rec room i f long hi (l .number) (g .last + 1) (omega (arith, fine′ .last-small))
 
     -- the message is finished
-    pub finished-agrees : Made rec room → isComplete g ≡ true → s ≡ stands rec room → Agrees out (finished (lent rec room out) i l g v) (answer (length out) s p i m)
-    finished-agrees made w es = subst (λ (a : Answer). Agrees out (finished (lent rec room out) i l g v) a) (sym (answer-whole w)) (go (ltb (length out) (length (messageOf rec room i (l .number) v (g .last + 1)))) refl)
+    pub finished-agrees : SlotsMade rec room → isComplete g ≡ true → s ≡ slotsOf rec room → SlotsAgree out (finished (lent rec room out) i l g v) (answer (length out) s p i m)
+    finished-agrees made w es = subst (λ (a : SlotsAnswer). SlotsAgree out (finished (lent rec room out) i l g v) a) (sym (answer-whole w)) (go (ltb (length out) (length (messageOf rec room i (l .number) v (g .last + 1)))) refl)
       where
         go : (b : Bool) → ltb (length out) (length (messageOf rec room i (l .number) v (g .last + 1))) ≡ b
-            → Agrees out (finished (lent rec room out) i l g v) (cond (tooShort (length out) (plus m p)) (refused 56 s) (record { number = 60; out = some (rebuiltOf (plus m p)); store = set s i none }))
+            → SlotsAgree out (finished (lent rec room out) i l g v) (cond (tooShort (length out) (plus m p)) (slotsRefuse 56 s) (record { number = 60; out = some (rebuiltOf (plus m p)); slots = set s i none }))
         go true e = unfold finished in rw (joins, short-is, e, es) (refusal rec room out 56 made)
         go false e = unfold finished in rw (joins, short-is, e, es, whole-of)
             (record {
               reply = unfold replyFor in refl;
               delivered = unfold laidOut in refl;
-              store = stands-with rec room (withHead rec i noHead) room i made (omega (arith, length-head rec rlong i hi noHead)) long hi (others-head rec room i noHead rlong hi) none (freed-slot rec room i rlong hi);
+              slots = stands-with rec room (withHead rec i noHead) room i made (omega (arith, length-head rec rlong i hi noHead)) long hi (others-head rec room i noHead rlong hi) none (freed-slot rec room i rlong hi);
               made = made-with rec room (withHead rec i noHead) room i made (omega (arith, length-head rec rlong i hi noHead)) long hi (others-head rec room i noHead rlong hi)
                   (λ q. absurd (true≢false (sym (freed-free rec i rlong hi) ∙ q)));
             })

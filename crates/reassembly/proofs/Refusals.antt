@@ -7,16 +7,18 @@ use Prim.Native.Nat.{ℕ, _+_, _≤_, _<_}
 use native.Mathlib.Omega.{arith}
 use lib.Dec.{eqb, ltb, leb}
 use lib.ListN.{length}
-use borrow.Author.Tests.{ltb-true, ltb-false, leb-false}
+use borrow.Author.Tests.{eqb-true, ltb-true, ltb-false, leb-false}
 use Rattle.reassembly.specs.Sizes.{messageSize}
 use Rattle.reassembly.specs.declared.Head.{Head}
 use Rattle.reassembly.specs.declared.Label.{Label}
 use Rattle.reassembly.specs.declared.Reply.{Reply}
 use Rattle.reassembly.specs.Record.{headAt, entryAt}
 use Rattle.reassembly.specs.Slots.{firstFrom, isOpenAs, isFree}
+use Rattle.reassembly.specs.Memory.{remembers}
+use Rattle.reassembly.specs.Remembered.{memoryOf}
 use Rattle.reassembly.specs.Judge.{misfits, grownBy, isComplete}
 use Rattle.reassembly.specs.Joining.{messageOf, joinsOutside}
-use Rattle.reassembly.specs.Calls.{Lent, After, after, bare, keptRoom, finished, putIn, added, openedIn, openedNow, takenPiece, lentShort, badSize, offNumber, firstCall, followOnCall}
+use Rattle.reassembly.specs.Calls.{Lent, After, after, bare, keptRoom, finished, putIn, added, openedIn, openedNow, settledRec, settledIn, takenPiece, lentShort, badSize, offNumber, firstCall, followOnCall}
 use Rattle.reassembly.specs.Careful.{Careful, CarefulFirst, CarefulFollowOn}
 use Rattle.reassembly.proofs.Branches.{good-size}
 
@@ -58,17 +60,28 @@ module _ (x : Lent) where
     careful-opened : (second : ℕ) → length v ≤ 1500 → Careful x (openedNow x l second v)
     unfolding openedNow openedIn keptRoom bare
     careful-opened second few =
-        both (leb 16 (firstFrom (isFree (x .rec)) 0 16)) _ _ (λ e. refused (bare 52))
+        both (remembers (memoryOf (x .rec)) (l .id)) _ _ (λ e. refused (bare 57))
+        (λ z. both (leb 16 (firstFrom (isFree (x .rec)) 0 16)) _ _ (λ e. refused (bare 52))
         (λ e. record {
           refusal = inl refl;
           own-room = inr (record { slot = firstFrom (isFree (x .rec)) 0 16; place = 0; bytes = v; one-of-16 = leb-false 16 (firstFrom (isFree (x .rec)) 0 16) e; inside = omega arith; put = refl });
-        })
+        }))
+
+    -- a settled record: with 60 the memory changes, and nothing else
+    careful-settled : (second : ℕ) (y : After) → Careful x y → Careful x (settledIn l second y)
+    unfolding settledRec
+    careful-settled second y c = go (eqb (y .reply .number) 60) refl
+      where
+        go : (b : Bool) → eqb (y .reply .number) 60 ≡ b → Careful x (settledIn l second y)
+        go true e = record { refusal = inr (inl (eqb-true (y .reply .number) 60 e)); own-room = c .own-room }
+        go false e = rw e c
 
     careful-taken : (second : ℕ) → length v ≤ 1500 → Careful x (takenPiece x l second v)
     unfolding takenPiece
     careful-taken second few =
         both (ltb (firstFrom (isOpenAs (x .rec) (l .id)) 0 16) 16) _ _
-        (λ e. careful-added (firstFrom (isOpenAs (x .rec) (l .id)) 0 16) (ltb-true (firstFrom (isOpenAs (x .rec) (l .id)) 0 16) 16 e))
+        (λ e. careful-settled second (added x (firstFrom (isOpenAs (x .rec) (l .id)) 0 16) l v)
+        (careful-added (firstFrom (isOpenAs (x .rec) (l .id)) 0 16) (ltb-true (firstFrom (isOpenAs (x .rec) (l .id)) 0 16) 16 e)))
         (λ e. careful-opened second few)
 
 pub careful-first : CarefulFirst

@@ -2,18 +2,18 @@
 use mathlib.Core.Path.{_≡_, refl, sym, ap, _∙_}
 use mathlib.Core.Logic.{_≢_}
 use mathlib.Core.Bool.{Bool, true, false, cond}
-use mathlib.Core.List.{[], _∷_}
+use mathlib.Core.List.{List, [], _∷_, _++_}
 use mathlib.Core.Option.{Option, none, some}
 use Prim.Native.Nat.{ℕ, zero, suc, _+_, _<_}
 use native.Mathlib.Nat.{not-suc-le-zero, le-of-suc-le-suc}
 use native.Mathlib.Omega.{arith}
 use native.Mathlib.Decide.{ℕ-discrete}
 use lib.Dec.{eqb}
-use lib.ListN.{length, getD, set, length-set}
+use lib.ListN.{drop, length, getD, set, length-set}
 use lib.Seq.{getD-set-same, getD-set-other, ext-getD}
-use Rattle.reassembly.specs.Store.{Message, Store, findId, findFree}
+use Rattle.reassembly.specs.Series.{series}
+use Rattle.reassembly.specs.Store.{Message, Slots, findId, findFree}
 use Rattle.reassembly.specs.Slots.{firstFrom}
-use Rattle.reassembly.specs.Stands.{series}
 
 module _ {A : Type 0} where
   pub length-series : (f : ℕ → A) (i n : ℕ) → length (series f i n) ≡ n
@@ -44,6 +44,28 @@ module _ {A : Type 0} where
       go : (i : ℕ) → i < n → Dec (i ≡ k) → getD (series g 0 n) i d ≡ getD (set (series f 0 n) k x) i d
       go i il (yes q) = rw q (getD-series g n k d h ∙ (e ∙ sym (getD-set-same (series f 0 n) k x d (rw (length-series f 0 n) h))))
       go i il (no q) = getD-series g n i d il ∙ (o i il q ∙ sym (getD-set-other (series f 0 n) k i x d q ∙ getD-series f n i d il))
+
+  -- one more at the end, one less at the start
+  series-from : (f : ℕ → A) (i n : ℕ) → series f i (suc n) ≡ series f i n ++ (f (i + n) ∷ [])
+  series-from f i zero = let e : i ≡ i + 0 = omega arith in ap (λ (k : ℕ). f k ∷ []) e
+  series-from f i (suc n) =
+      let e : i + 1 + n ≡ i + suc n = omega arith in
+      ap (λ (z : List A). f i ∷ z) (series-from f (i + 1) n ∙ ap (λ (k : ℕ). series f (i + 1) n ++ (f k ∷ [])) e)
+
+  pub series-more : (f : ℕ → A) (n : ℕ) → series f 0 (n + 1) ≡ series f 0 n ++ (f n ∷ [])
+  series-more f n =
+      let e : n + 1 ≡ suc n = omega arith in
+      let z : 0 + n ≡ n = omega arith in
+      ap (series f 0) e ∙ series-from f 0 n ∙ ap (λ (k : ℕ). series f 0 n ++ (f k ∷ [])) z
+
+  series-up : (f : ℕ → A) (i n : ℕ) → series (λ (k : ℕ). f (k + 1)) i n ≡ series f (i + 1) n
+  series-up f i zero = refl
+  series-up f i (suc n) = ap (λ (z : List A). f (i + 1) ∷ z) (series-up f (i + 1) n)
+
+  pub series-less : (f : ℕ → A) (n : ℕ) → drop 1 (series f 0 (n + 1)) ≡ series (λ (k : ℕ). f (k + 1)) 0 n
+  series-less f n =
+      let e : n + 1 ≡ suc n = omega arith in
+      ap (λ (k : ℕ). drop 1 (series f 0 k)) e ∙ sym (series-up f 0 n)
 
 -- whether a slot is free, and whether its message has this id
 abbrev pub isNone : Option Message → Bool
@@ -95,7 +117,7 @@ first-passes p i (suc n) h = go (p i) refl h (first-passes p (i + 1) n)
     go false e k ih = rw e (ih (let z : firstFrom p (i + 1) n < i + suc n = rw e at k in omega arith))
 
 -- the place after all that the store names as free is free
-pub free-none : (s : Store) → getD s (findFree s) none ≡ none
+pub free-none : (s : Slots) → getD s (findFree s) none ≡ none
 unfolding findFree
 free-none [] = refl
 free-none (none ∷ s) = refl

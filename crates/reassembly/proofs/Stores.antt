@@ -12,7 +12,7 @@ use lib.Seq.{getD-drop, getD-take, ext-getD, length-take-le}
 use borrow.Author.Tests.{eq-eqb, ne-eqb, lt-ltb, le-ltb, le-leb, lt-leb, eqb-true, eqb-false, ltb-true, ltb-false}
 use Rattle.wire.proofs.Same.{eq-same}
 use Rattle.reassembly.specs.Sizes.{messageSize}
-use Rattle.reassembly.specs.Store.{Piece, first, follow, idOf, numberOf, finalOf, pieceBytes, Message, Store, empty, allHeld, someHeld, total, joined, findId, findFree, slotOf, messageOr, plus, badLength, badNumber, repeats, clashes, tooMuch, complete, rebuiltOf, tooShort, refused, answer, step, sweptOne, sweep}
+use Rattle.reassembly.specs.Store.{Piece, first, follow, idOf, numberOf, finalOf, pieceBytes, Message, Slots, Store, empty, allHeld, someHeld, total, joined, findId, findFree, slotOf, messageOr, plus, badLength, badNumber, repeats, clashes, tooMuch, complete, rebuiltOf, tooShort, slotsRefuse, answer, slotsStep, step, sweptOne, slotsSweep}
 use Rattle.reassembly.proofs.Table.{held-of-length, total-set, total-set-le, total-take, length-joined, none-held}
 
 -- ---- the parts of a piece
@@ -30,7 +30,7 @@ follow-parts id number final bytes = (refl, refl, refl, refl)
 -- ---- where an id is found, and which place is free
 
 -- n times a default is the default everywhere
-all-same : {A : Type 0} (n i : ℕ) (d : A) → getD (replicate n d) i d ≡ d
+pub all-same : {A : Type 0} (n i : ℕ) (d : A) → getD (replicate n d) i d ≡ d
 all-same zero i d = refl
 all-same (suc n) zero d = refl
 all-same (suc n) (suc i) d = all-same n i d
@@ -42,16 +42,16 @@ pub none≢some : (o : Option Message) (m : Message) → o ≡ none → o ≡ so
 none≢some o m p q = let z : _≡_ {A = ℕ} 0 1 = cc in omega arith
 
 -- The place k holds a message of this id.
-pub record Hit (id : ℕ) (s : Store) (k : ℕ) : Type 0 where
+pub record Hit (id : ℕ) (s : Slots) (k : ℕ) : Type 0 where
   pub inside : k < length s
   pub there : Message
   pub is-there : getD s k none ≡ some there
   pub its-id : there .id ≡ id
 
-hit-later : (id : ℕ) (o : Option Message) (s : Store) (k : ℕ) → Hit id s k → Hit id (o ∷ s) (suc k)
+pub hit-later : (id : ℕ) (o : Option Message) (s : Slots) (k : ℕ) → Hit id s k → Hit id (o ∷ s) (suc k)
 hit-later id o s k h = record { inside = omega arith; there = h .there; is-there = h .is-there; its-id = h .its-id }
 
-find-hit : (id : ℕ) (s : Store) (k : ℕ) (m : Message) → getD s k none ≡ some m → m .id ≡ id → Hit id s (findId id s)
+find-hit : (id : ℕ) (s : Slots) (k : ℕ) (m : Message) → getD s k none ≡ some m → m .id ≡ id → Hit id s (findId id s)
 unfolding findId
 find-hit id [] k m e q = absurd (none≢some none m refl e)
 find-hit id (none ∷ s) zero m e q = absurd (none≢some none m refl e)
@@ -64,26 +64,26 @@ find-hit id (some x ∷ s) k m e q = go (eqb (x .id) id) refl k e (λ k e. find-
     go false r zero e ih = let d : x .id ≡ m .id = cc in absurd (eqb-false (x .id) id r (d ∙ q))
     go false r (suc k) e ih = rw r (hit-later id (some x) s (findId id s) (ih k e))
 
-find-miss : (id : ℕ) (s : Store) → ((k : ℕ) (m : Message) → getD s k none ≡ some m → m .id ≡ id → ⊥) → findId id s ≡ length s
+find-miss : (id : ℕ) (s : Slots) → ((k : ℕ) (m : Message) → getD s k none ≡ some m → m .id ≡ id → ⊥) → findId id s ≡ length s
 unfolding findId
 find-miss id [] f = refl
 find-miss id (none ∷ s) f = ap suc (find-miss id s (λ k. f (suc k)))
 find-miss id (some x ∷ s) f = rw (ne-eqb (x .id) id (λ e. f 0 x refl e)) (ap suc (find-miss id s (λ k. f (suc k))))
 
 -- A piece of a message that is open goes to a place that holds it;
-pub place-open : (id : ℕ) (s : Store) (k : ℕ) (m : Message) → getD s k none ≡ some m → m .id ≡ id → Hit id s (slotOf id s)
+pub place-open : (id : ℕ) (s : Slots) (k : ℕ) (m : Message) → getD s k none ≡ some m → m .id ≡ id → Hit id s (slotOf id s)
 unfolding slotOf
 place-open id s k m e q =
     let h : Hit id s (findId id s) = find-hit id s k m e q in
     rw (lt-ltb (findId id s) (length s) (h .inside)) h
 
 -- of one that is not, to the first free place,
-pub place-new : (id : ℕ) (s : Store) → ((k : ℕ) (m : Message) → getD s k none ≡ some m → m .id ≡ id → ⊥) → slotOf id s ≡ findFree s
+pub place-new : (id : ℕ) (s : Slots) → ((k : ℕ) (m : Message) → getD s k none ≡ some m → m .id ≡ id → ⊥) → slotOf id s ≡ findFree s
 unfolding slotOf
 place-new id s f = rw (find-miss id s f, le-ltb (length s) (length s) (omega arith)) refl
 
 -- which is one of the store's if one of them is free.
-pub free-inside : (s : Store) (k : ℕ) → k < length s → getD s k none ≡ none → findFree s < length s
+pub free-inside : (s : Slots) (k : ℕ) → k < length s → getD s k none ≡ none → findFree s < length s
 unfolding findFree
 free-inside [] k h e = absurd (not-suc-le-zero h)
 free-inside (none ∷ s) k h e = omega arith
@@ -238,30 +238,30 @@ not-too-short cap m h = le-ltb cap (length (rebuiltOf m .bytes)) h
 -- ---- the answer to a piece
 
 -- A step is the answer at the piece's place to the message that stands there.
-pub step-is : (cap : ℕ) (s : Store) (p : Piece) (second k : ℕ) (m : Message) → slotOf (idOf p) s ≡ k → messageOr (getD s k none) (idOf p) second ≡ m → step cap s p second ≡ answer cap s p k m
-unfolding step
+pub step-is : (cap : ℕ) (s : Slots) (p : Piece) (second k : ℕ) (m : Message) → slotOf (idOf p) s ≡ k → messageOr (getD s k none) (idOf p) second ≡ m → slotsStep cap s p second ≡ answer cap s p k m
+unfolding slotsStep
 step-is cap s p second k m a b = rw (a, b) refl
 
-module _ (cap : ℕ) (s : Store) (p : Piece) (k : ℕ) (m : Message) (gl : badLength p ≡ false) (gn : badNumber p ≡ false) where
+module _ (cap : ℕ) (s : Slots) (p : Piece) (k : ℕ) (m : Message) where
   -- A repeat is answered by 54 and changes nothing.
-  pub answer-repeat : repeats m p ≡ true → answer cap s p k m ≡ record { number = 54; out = none; store = s }
-  unfolding answer refused
-  answer-repeat e = rw (gl, gn, e) refl
+  pub answer-repeat : repeats m p ≡ true → answer cap s p k m ≡ record { number = 54; out = none; slots = s }
+  unfolding answer slotsRefuse
+  answer-repeat e = rw e refl
 
-  module _ (nr : repeats m p ≡ false) (nc : clashes m p ≡ false) (k16 : k < 16) (nm : tooMuch m p ≡ false) where
+  module _ (nr : repeats m p ≡ false) (nc : clashes m p ≡ false) (inside : k < length s) (nm : tooMuch m p ≡ false) where
     -- A piece that fits is kept;
-    pub answer-kept : complete (plus m p) ≡ false → answer cap s p k m ≡ record { number = 0; out = none; store = set s k (some (plus m p)) }
+    pub answer-kept : complete (plus m p) ≡ false → answer cap s p k m ≡ record { number = 0; out = none; slots = set s k (some (plus m p)) }
     unfolding answer
-    answer-kept e = rw (gl, gn, nr, nc, lt-leb 16 k k16, nm, e) refl
+    answer-kept e = rw (nr, nc, lt-leb (length s) k inside, nm, e) refl
 
     -- the last missing one is 56 where the buffer is too short;
     pub answer-whole : complete (plus m p) ≡ true → answer cap s p k m
-        ≡ cond (tooShort cap (plus m p)) (refused 56 s) (record { number = 60; out = some (rebuiltOf (plus m p)); store = set s k none })
+        ≡ cond (tooShort cap (plus m p)) (slotsRefuse 56 s) (record { number = 60; out = some (rebuiltOf (plus m p)); slots = set s k none })
     unfolding answer
-    answer-whole e = rw (gl, gn, nr, nc, lt-leb 16 k k16, nm, e) refl
+    answer-whole e = rw (nr, nc, lt-leb (length s) k inside, nm, e) refl
 
     -- else it brings the message out and frees its place.
-    pub answer-finished : complete (plus m p) ≡ true → tooShort cap (plus m p) ≡ false → answer cap s p k m ≡ record { number = 60; out = some (rebuiltOf (plus m p)); store = set s k none }
+    pub answer-finished : complete (plus m p) ≡ true → tooShort cap (plus m p) ≡ false → answer cap s p k m ≡ record { number = 60; out = some (rebuiltOf (plus m p)); slots = set s k none }
     answer-finished e f = answer-whole e ∙ rw f refl
 
 -- What comes out has at most 65,535 bytes, by 53;
@@ -277,10 +277,10 @@ whole-fits m p e =
     let f : total (m .table) + length (pieceBytes p) ≤ messageSize = ltb-false messageSize (total (m .table) + length (pieceBytes p)) e in
     omega arith
 
--- so a step is the same with every assembly buffer of 65,535 bytes or more.
-pub step-enough : (cap : ℕ) → messageSize ≤ cap → (s : Store) (p : Piece) (second : ℕ) → step cap s p second ≡ step messageSize s p second
-unfolding step answer
-step-enough cap h s p second = go (messageOr (getD s (slotOf (idOf p) s) none) (idOf p) second) _ refl
+-- so the slots do the same with every assembly buffer of 65,535 bytes or more,
+pub slots-enough : (cap : ℕ) → messageSize ≤ cap → (s : Slots) (p : Piece) (second : ℕ) → slotsStep cap s p second ≡ slotsStep messageSize s p second
+unfolding slotsStep answer
+slots-enough cap h s p second = go (messageOr (getD s (slotOf (idOf p) s) none) (idOf p) second) _ refl
   where
     go : (m : Message) (b : Bool) → tooMuch m p ≡ b → answer cap s p (slotOf (idOf p) s) m ≡ answer messageSize s p (slotOf (idOf p) s) m
     go m true e = rw e refl
@@ -288,20 +288,25 @@ step-enough cap h s p second = go (messageOr (getD s (slotOf (idOf p) s) none) (
         let w : length (rebuiltOf (plus m p) .bytes) ≤ messageSize = whole-fits m p e in
         rw (not-too-short cap (plus m p) (omega arith), not-too-short messageSize (plus m p) w) refl
 
+-- and so does the store.
+pub step-enough : (keep cap : ℕ) → messageSize ≤ cap → (s : Store) (p : Piece) (second : ℕ) → step keep cap s p second ≡ step keep messageSize s p second
+unfolding step
+step-enough keep cap h s p second = rw (slots-enough cap h (s .slots) p second) refl
+
 -- ---- a sweep
 
-module _ (second : ℕ) (s : Store) (k : ℕ) where
-  swept-at : getD (sweep second s) k none ≡ sweptOne second (getD s k none)
-  unfolding sweep sweptOne
+module _ (second : ℕ) (s : Slots) (k : ℕ) where
+  swept-at : getD (slotsSweep second s) k none ≡ sweptOne second (getD s k none)
+  unfolding slotsSweep sweptOne
   swept-at = List·getD-map (sweptOne second) s k none
 
-  pub sweep-free : getD s k none ≡ none → getD (sweep second s) k none ≡ none
+  pub sweep-free : getD s k none ≡ none → getD (slotsSweep second s) k none ≡ none
   unfolding sweptOne
   sweep-free e = swept-at ∙ ap (sweptOne second) e
 
   -- A message stays if the sweep is less than 30 seconds after it was opened, and is dropped otherwise.
   pub sweep-drops : (m : Message) → getD s k none ≡ some m
-      → (second < m .opened + 30 → getD (sweep second s) k none ≡ some m) × (m .opened + 30 ≤ second → getD (sweep second s) k none ≡ none)
+      → (second < m .opened + 30 → getD (slotsSweep second s) k none ≡ some m) × (m .opened + 30 ≤ second → getD (slotsSweep second s) k none ≡ none)
   unfolding sweptOne
   sweep-drops m e = (
     λ h. swept-at ∙ ap (sweptOne second) e ∙ rw (lt-leb (m .opened + 30) second h) refl,
@@ -309,9 +314,9 @@ module _ (second : ℕ) (s : Store) (k : ℕ) where
   )
 
 -- So a sweep for which no message is old changes nothing.
-pub sweep-same : (second : ℕ) (s : Store) → ((k : ℕ) (m : Message) → getD s k none ≡ some m → second < m .opened + 30) → sweep second s ≡ s
-sweep-same second s f = ext-getD none (sweep second s) s (unfold sweep in length-map s (sweptOne second)) (λ k h. at k (getD s k none) refl)
+pub sweep-same : (second : ℕ) (s : Slots) → ((k : ℕ) (m : Message) → getD s k none ≡ some m → second < m .opened + 30) → slotsSweep second s ≡ s
+sweep-same second s f = ext-getD none (slotsSweep second s) s (unfold slotsSweep in length-map s (sweptOne second)) (λ k h. at k (getD s k none) refl)
   where
-    at : (k : ℕ) (o : Option Message) → getD s k none ≡ o → getD (sweep second s) k none ≡ getD s k none
+    at : (k : ℕ) (o : Option Message) → getD s k none ≡ o → getD (slotsSweep second s) k none ≡ getD s k none
     at k none e = sweep-free second s k e ∙ sym e
     at k (some m) e = sweep-drops second s k m e .0 (f k m e) ∙ sym e

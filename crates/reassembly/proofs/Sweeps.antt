@@ -1,5 +1,5 @@
--- A sweep and a new store, on record and room, are the store's. Assumes nothing.
-use mathlib.Core.Path.{_≡_, refl, sym, ap, _∙_, subst}
+-- Slots swept, and slots of zeros, on record and room. Assumes nothing.
+use mathlib.Core.Path.{_≡_, refl, sym, ap, _∙_}
 use mathlib.Core.Logic.{_≢_}
 use mathlib.Core.Bool.{Bool, true, false, cond, not, _&&_, false≢true, true≢false}
 use mathlib.Core.List.{List, _∷_, map}
@@ -11,15 +11,16 @@ use lib.Dec.{eqb, ltb, leb}
 use lib.ListN.{length, replicate, length-replicate}
 use borrow.Author.Tests.{lt-ltb, le-ltb, ltb-true, ltb-false}
 use Rattle.wire.specs.Parts.{part, splice}
-use Rattle.wire.proofs.Parts.{part-within, length-splice, splice-all}
+use Rattle.wire.proofs.Parts.{part-within, length-splice}
 use Rattle.wire.proofs.Slices.{part-alike}
+use Rattle.reassembly.specs.Series.{series}
 use Rattle.reassembly.specs.Sizes.{roomSize, headSize, recordSize}
-use Rattle.reassembly.specs.Store.{Message, Store, empty, sweptOne, sweep}
+use Rattle.reassembly.specs.Store.{Message, Slots, empty, sweptOne, slotsSweep}
 use Rattle.reassembly.specs.Record.{headOf, headAt, withHead}
 use Rattle.reassembly.specs.Slots.{isFree}
 use Rattle.reassembly.specs.Judge.{noHead, isOld}
-use Rattle.reassembly.specs.Calls.{sweptAt, sweptTo, swept, renewed}
-use Rattle.reassembly.specs.Stands.{series, messageWith, slotAt, stands, Made, SweepAgrees, NewAgrees}
+use Rattle.reassembly.specs.Calls.{sweptAt, sweptTo}
+use Rattle.reassembly.specs.Stands.{messageWith, slotAt, slotsOf, SlotsMade}
 use Rattle.reassembly.proofs.Series.{series-same}
 use Rattle.reassembly.proofs.Written.{length-head}
 use Rattle.reassembly.proofs.Others.{Others, others-head, slot-same, made-with, freed-slot, freed-free}
@@ -69,11 +70,11 @@ one-swept second rec room i hi long = go (isOld second (headAt rec i)) refl
     go false e = rw e (record { long = long; here = sym (young-slot second rec room i e); there = λ j hj q. refl })
 
 -- it leaves what a call may be lent again
-one-made : (second : ℕ) (rec room : List ℕ) (i : ℕ) → i < 16 → Made rec room → Made (sweptAt second rec i) room
+one-made : (second : ℕ) (rec room : List ℕ) (i : ℕ) → i < 16 → SlotsMade rec room → SlotsMade (sweptAt second rec i) room
 unfolding sweptAt
 one-made second rec room i hi m = go (isOld second (headAt rec i))
   where
-    go : (b : Bool) → Made (cond b (withHead rec i noHead) rec) room
+    go : (b : Bool) → SlotsMade (cond b (withHead rec i noHead) rec) room
     go true =
         made-with rec room (withHead rec i noHead) room i m (omega (arith, length-head rec (m .record-long) i hi noHead, m .record-long)) (m .room-long) hi
         (others-head rec room i noHead (m .record-long) hi)
@@ -108,30 +109,29 @@ swept-upto second rec room long (suc n) h = more (swept-upto second rec room lon
             let ne : j ≡ n → ⊥ = q in
             rw (le-ltb j (suc n) (omega arith)) (w .there j hj q ∙ u .slots j hj ∙ rw e refl)
 
-upto-made : (second : ℕ) (rec room : List ℕ) → Made rec room → (n : ℕ) → n ≤ 16 → Made (sweptTo second rec n) room
+upto-made : (second : ℕ) (rec room : List ℕ) → SlotsMade rec room → (n : ℕ) → n ≤ 16 → SlotsMade (sweptTo second rec n) room
 upto-made second rec room m zero h = m
 upto-made second rec room m (suc n) h = one-made second (sweptTo second rec n) room n (omega arith) (upto-made second rec room m n (omega arith))
 
 map-series : (g : Option Message → Option Message) (f : ℕ → Option Message) (i n : ℕ) → map g (series f i n) ≡ series (λ k. g (f k)) i n
 map-series g f i zero = refl
-map-series g f i (suc n) = ap {B = Store} (λ (z : Store). g (f i) ∷ z) (map-series g f (i + 1) n)
+map-series g f i (suc n) = ap {B = Slots} (λ (z : Slots). g (f i) ∷ z) (map-series g f (i + 1) n)
 
-pub sweep-stands : (second : ℕ) (rec room : List ℕ) → recordSize ≤ length rec → stands (swept second rec) room ≡ sweep second (stands rec room)
-unfolding swept stands sweep
-sweep-stands second rec room long =
+-- all slots swept are the slots that the store sweeps
+pub swept-slots : (second : ℕ) (rec room : List ℕ) → recordSize ≤ length rec → slotsOf (sweptTo second rec 16) room ≡ slotsSweep second (slotsOf rec room)
+unfolding slotsOf slotsSweep
+swept-slots second rec room long =
     let u : Upto second rec room (sweptTo second rec 16) 16 = swept-upto second rec room long 16 (omega arith) in
-    ap (λ (b : Bool). series (slotAt (cond b rec (sweptTo second rec 16)) room) 0 16) (le-ltb (length rec) recordSize long)
-    ∙ series-same (slotAt (sweptTo second rec 16) room) (λ k. sweptOne second (slotAt rec room k)) 16 none (λ k hk. u .slots k hk ∙ rw (lt-ltb k 16 hk) refl)
+    series-same (slotAt (sweptTo second rec 16) room) (λ k. sweptOne second (slotAt rec room k)) 16 none (λ k hk. u .slots k hk ∙ rw (lt-ltb k 16 hk) refl)
     ∙ sym (map-series (sweptOne second) (slotAt rec room) 0 16)
 
-pub sweep-made : (second : ℕ) (rec room : List ℕ) → Made rec room → Made (swept second rec) room
-unfolding swept
-sweep-made second rec room m = rw (le-ltb (length rec) recordSize (m .record-long)) (upto-made second rec room m 16 (omega arith))
+pub swept-made : (second : ℕ) (rec room : List ℕ) → SlotsMade rec room → SlotsMade (sweptTo second rec 16) room
+swept-made second rec room m = upto-made second rec room m 16 (omega arith)
 
--- a new store stands for the empty one
-none-series : (i n : ℕ) → _≡_ {A = Store} (series (λ k. none) i n) (replicate n none)
+-- zeros stand for free slots
+none-series : (i n : ℕ) → _≡_ {A = Slots} (series (λ k. none) i n) (replicate n none)
 none-series i zero = refl
-none-series i (suc n) = ap {B = Store} (λ (z : Store). none ∷ z) (none-series (i + 1) n)
+none-series i (suc n) = ap {B = Slots} (λ (z : Slots). none ∷ z) (none-series (i + 1) n)
 
 count-zero : headOf (replicate headSize 0) .count ≡ 0
 unfolding headOf
@@ -161,46 +161,9 @@ module _ (rec room : List ℕ) (n : ℕ) (lr : n ≤ length rec) (enough : recor
   unfolding slotAt
   blank-slot i hi = rw (blank-free i hi) refl
 
-  blank-stands : stands blank room ≡ empty
-  unfolding stands
-  blank-stands = series-same (slotAt blank room) (λ k. none) 16 none blank-slot ∙ none-series 0 16
+  pub blank-slots : slotsOf blank room ≡ empty
+  unfolding slotsOf
+  blank-slots = series-same (slotAt blank room) (λ k. none) 16 none blank-slot ∙ none-series 0 16
 
-  blank-made : roomSize ≤ length room → Made blank room
+  pub blank-made : roomSize ≤ length room → SlotsMade blank room
   blank-made lm = record { record-long = omega (arith, blank-long); room-long = lm; slots = λ i hi e. absurd (true≢false (sym (blank-free i hi) ∙ e)) }
-
-pub new-stands : (rec room : List ℕ) → recordSize ≤ length rec → stands (renewed rec) room ≡ empty
-unfolding renewed
-new-stands rec room lr = rw (le-ltb (length rec) recordSize lr) (blank-stands rec room recordSize lr (omega arith))
-
-pub new-made : (rec room : List ℕ) → recordSize ≤ length rec → roomSize ≤ length room → Made (renewed rec) room
-unfolding renewed
-new-made rec room lr lm = rw (le-ltb (length rec) recordSize lr) (blank-made rec room recordSize lr (omega arith) lm)
-
--- a record of zeros is a new one
-zeros-blank : (n : ℕ) → splice {A = ℕ} (replicate n 0) 0 (replicate n 0) ≡ replicate n 0
-zeros-blank n = splice-all (replicate n 0) (replicate n 0) refl
-
-pub zeros-stand : (n : ℕ) (room : List ℕ) → recordSize ≤ n → stands (replicate n 0) room ≡ empty
-zeros-stand n room lr =
-    ap (λ (z : List ℕ). stands z room) (sym (zeros-blank n))
-    ∙ blank-stands (replicate n 0) room n (let w : length {A = ℕ} (replicate n 0) ≡ n = length-replicate {A = ℕ} n 0 in omega arith) lr
-
-pub zeros-made : (n : ℕ) (room : List ℕ) → recordSize ≤ n → roomSize ≤ length room → Made (replicate n 0) room
-zeros-made n room lr lm =
-    subst (λ (z : List ℕ). Made z room) (zeros-blank n)
-    (blank-made (replicate n 0) room n (let w : length {A = ℕ} (replicate n 0) ≡ n = length-replicate {A = ℕ} n 0 in omega arith) lr lm)
-
--- The promises of the calls, from the equations that they state.
-pub sweep-promise : (second : ℕ) (rec rec′ : List ℕ) → rec′ ≡ swept second rec → SweepAgrees second rec rec′
-sweep-promise second rec rec′ e =
-    record {
-      store = λ room long. ap (λ (z : List ℕ). stands z room) e ∙ sweep-stands second rec room long;
-      made = λ room m. subst (λ (z : List ℕ). Made z room) (sym e) (sweep-made second rec room m);
-    }
-
-pub new-promise : (rec rec′ : List ℕ) → rec′ ≡ renewed rec → NewAgrees rec rec′
-new-promise rec rec′ e =
-    record {
-      store = λ room lr. ap (λ (z : List ℕ). stands z room) e ∙ new-stands rec room lr;
-      made = λ room lr lm. subst (λ (z : List ℕ). Made z room) (sym e) (new-made rec room lr lm);
-    }

@@ -11,6 +11,8 @@ use Rattle.reassembly.specs.declared.Reply.{Reply}
 use Rattle.reassembly.specs.Sizes.{messageSize, slotSize, roomSize, recordSize}
 use Rattle.reassembly.specs.Record.{headAt, withHead, entryAt, withEntry, cleared, outside, pieceAt}
 use Rattle.reassembly.specs.Slots.{firstFrom, isOpenAs, isFree}
+use Rattle.reassembly.specs.Memory.{Finished, remembers}
+use Rattle.reassembly.specs.Remembered.{memoryOf, rememberedIn, forgottenIn}
 use Rattle.reassembly.specs.Joining.{messageOf, joinsOutside}
 use Rattle.reassembly.specs.Judge.{again, misfits, grownBy, isComplete, newHead, noHead, isOld}
 
@@ -93,16 +95,27 @@ unfoldable pub openedIn : Lent → ℕ → Label → ℕ → List ℕ → After
 openedIn x i l second v =
     after (bare 0) (kept (lent (cleared (x .rec) i) (x .room) (x .out)) i l 0 (grownBy (newHead l second) l (length v)) v)
 
--- a piece of a message that is not open: 52, or it is kept in the first free slot
+-- a piece of a message that is not open: 57 where its id is remembered, or 52, or it is kept in the first free slot
 unfoldable pub openedNow : Lent → Label → ℕ → List ℕ → After
 openedNow x l second v =
-    cond (leb 16 (firstFrom (isFree (x .rec)) 0 16)) (refuses 52 x)
-    (openedIn x (firstFrom (isFree (x .rec)) 0 16) l second v)
+    cond (remembers (memoryOf (x .rec)) (l .id)) (refuses 57 x)
+    (cond (leb 16 (firstFrom (isFree (x .rec)) 0 16)) (refuses 52 x)
+    (openedIn x (firstFrom (isFree (x .rec)) 0 16) l second v))
 
--- a piece of any message, at a second
+-- the record after a piece that was answered n: with 60 its message is finished, and remembered
+unfoldable pub settledRec : List ℕ → ℕ → Finished → List ℕ
+settledRec rec n f = cond (eqb n 60) (rememberedIn rec f) rec
+
+-- what a call for a piece of the label's message leaves, its record settled at this second
+abbrev pub settledIn : Label → ℕ → After → After
+settledIn l second y = after (y .reply) (lent (settledRec (y .left .rec) (y .reply .number) (record { id = l .id; second = second })) (y .left .room) (y .left .out))
+
+-- a piece of any message, at a second. An open message is looked for first: on a record that calls made its id is not remembered (specs/Apart.antt),
+-- so 57 comes before 54 there, as the numbers' table has it
 unfoldable pub takenPiece : Lent → Label → ℕ → List ℕ → After
 takenPiece x l second v =
-    cond (ltb (firstFrom (isOpenAs (x .rec) (l .id)) 0 16) 16) (added x (firstFrom (isOpenAs (x .rec) (l .id)) 0 16) l v)
+    cond (ltb (firstFrom (isOpenAs (x .rec) (l .id)) 0 16) 16)
+    (settledIn l second (added x (firstFrom (isOpenAs (x .rec) (l .id)) 0 16) l v))
     (openedNow x l second v)
 
 -- 59 before all else: the lent record or room is short. (That the record names bytes outside is asked only of pieces that the call reads: docs/DECISIONS.md)
@@ -141,9 +154,9 @@ abbrev pub sweptTo : ℕ → List ℕ → ℕ → List ℕ
 sweptTo second rec zero = rec
 sweptTo second rec (suc n) = sweptAt second (sweptTo second rec n) n
 
--- a sweep; a record that is too short for a store has no message to drop
+-- a sweep: old messages are dropped, finished ones that are due are forgotten; a record that is too short for a store has none
 unfoldable pub swept : ℕ → List ℕ → List ℕ
-swept second rec = cond (ltb (length rec) recordSize) rec (sweptTo second rec 16)
+swept second rec = cond (ltb (length rec) recordSize) rec (forgottenIn second (sweptTo second rec 16))
 
 -- a new store: its record is zeros, and what is lent behind it stays; a short record stays
 unfoldable pub renewed : List ℕ → List ℕ

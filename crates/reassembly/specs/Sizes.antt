@@ -29,6 +29,28 @@ entrySize = 4
 abbrev pub tableSize : ℕ
 tableSize = 512
 
--- the record: 16 heads, 16 tables
+-- so many finished messages are remembered at most
+abbrev pub mostRemembered : ℕ
+mostRemembered = 64
+
+-- where their ids begin in the record, behind 16 tables, and an id's bytes
+abbrev pub idsAt : ℕ
+idsAt = 8576
+
+abbrev pub idSize : ℕ
+idSize = 4
+
+-- where their seconds begin, behind 64 ids, and a second's bytes
+abbrev pub secondsAt : ℕ
+secondsAt = 8832
+
+abbrev pub secondSize : ℕ
+secondSize = 8
+
+-- where their count stands, behind 64 seconds
+abbrev pub countAt : ℕ
+countAt = 9344
+
+-- the record: 16 heads, 16 tables, the memory
 abbrev pub recordSize : ℕ
-recordSize = 8576
+recordSize = 9345

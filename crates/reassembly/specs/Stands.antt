@@ -4,22 +4,20 @@ use mathlib.Core.Path.{_≡_}
 use mathlib.Core.Bool.{true, false, cond}
 use mathlib.Core.List.{List, [], _∷_}
 use mathlib.Core.Option.{Option, none, some}
-use Prim.Native.Nat.{ℕ, zero, suc, _+_, _≤_, _<_}
+use Prim.Native.Nat.{ℕ, _+_, _≤_, _<_}
 use lib.ListN.{length, getD}
 use Rattle.wire.specs.Parts.{splice}
-use Rattle.reassembly.specs.Sizes.{roomSize, recordSize}
+use Rattle.reassembly.specs.Sizes.{roomSize, mostRemembered, recordSize}
 use Rattle.reassembly.specs.declared.Head.{Head}
 use Rattle.reassembly.specs.declared.Label.{Label}
 use Rattle.reassembly.specs.declared.Reply.{Reply}
-use Rattle.reassembly.specs.Store.{Piece, first, follow, Message, Store, Rebuilt, Answer, isHeld, total, sweep, empty}
+use Rattle.reassembly.specs.Series.{series}
+use Rattle.reassembly.specs.Store.{Piece, first, follow, Message, Slots, Store, newStore, Rebuilt, Answer, isHeld, total, sweep}
 use Rattle.reassembly.specs.Record.{headAt, entryAt, pieceAt}
 use Rattle.reassembly.specs.Slots.{isFree}
+use Rattle.reassembly.specs.Remembered.{memoryOf}
+use Rattle.reassembly.specs.Apart.{Apart}
 use Rattle.reassembly.specs.Calls.{After, bare}
-
--- the values of f at n numbers from i on
-abbrev pub series : {A : Type 0} → (ℕ → A) → ℕ → ℕ → List A
-series f i zero = []
-series f i (suc n) = f i ∷ series f (i + 1) n
 
 -- the bytes held of each number of slot i
 unfoldable pub tableAt : List ℕ → List ℕ → ℕ → List (List ℕ)
@@ -33,9 +31,13 @@ messageWith h rec room i = record { id = h .id; opened = h .opened; kind = h .ki
 unfoldable pub slotAt : List ℕ → List ℕ → ℕ → Option Message
 slotAt rec room i = cond (isFree rec i) none (some (messageWith (headAt rec i) rec room i))
 
--- the store that a record and a room stand for
-unfoldable pub stands : List ℕ → List ℕ → Store
-stands rec room = series (slotAt rec room) 0 16
+-- the slots that a record and a room stand for
+unfoldable pub slotsOf : List ℕ → List ℕ → Slots
+slotsOf rec room = series (slotAt rec room) 0 16
+
+-- the store that they stand for
+abbrev pub stands : List ℕ → List ℕ → Store
+stands rec room = record { slots = slotsOf rec room; remembered = memoryOf rec }
 
 -- how many of some numbers are held
 abbrev pub heldOf : List (List ℕ) → ℕ
@@ -57,12 +59,17 @@ pub record Fine (h : Head) (rec room : List ℕ) (i : ℕ) : Type 0 where
   pub last-small : h .last < 128
   pub lastmost : 0 < h .last → (k : ℕ) → isHeld (getD (tableAt rec room i) k []) ≡ true → k ≤ h .last
 
--- The invariant of a store: record and room have their lengths, and every slot in use meets its own. A new record meets it (`NewAgrees`), and a call that
--- is lent such a record and room leaves such ones (`Agrees`, `SweepAgrees`): "a record that calls made" means this.
-pub record Made (rec room : List ℕ) : Type 0 where
+-- The invariant of the slots: record and room have their lengths, and every slot in use meets its own.
+pub record SlotsMade (rec room : List ℕ) : Type 0 where
   pub record-long : recordSize ≤ length rec
   pub room-long : roomSize ≤ length room
   pub slots : (i : ℕ) → i < 16 → isFree rec i ≡ false → Fine (headAt rec i) rec room i
+
+-- The invariant of a store: that of its slots, and its ids are apart. A new record meets it (`NewAgrees`), and a call that is lent such a record and room
+-- leaves such ones (`Agrees`, `SweepAgrees`): "a record that calls made" means this.
+pub record Made (rec room : List ℕ) : Type 0 where
+  pub slots-made : SlotsMade rec room
+  pub apart : Apart mostRemembered (stands rec room)
 
 -- what a piece of the store is to a call: a label beside the bytes
 unfoldable pub labelOf : Piece → Label
@@ -91,7 +98,7 @@ pub record SweepAgrees (second : ℕ) (rec rec′ : List ℕ) : Type 0 where
   pub store : (room : List ℕ) → recordSize ≤ length rec → stands rec′ room ≡ sweep second (stands rec room)
   pub made : (room : List ℕ) → Made rec room → Made rec′ room
 
--- A new record stands for the empty store, with any room, and with one of the lent length it is what a call may be lent.
+-- A new record stands for the new store, with any room, and with one of the lent length it is what a call may be lent.
 pub record NewAgrees (rec rec′ : List ℕ) : Type 0 where
-  pub store : (room : List ℕ) → recordSize ≤ length rec → stands rec′ room ≡ empty
+  pub store : (room : List ℕ) → recordSize ≤ length rec → stands rec′ room ≡ newStore
   pub made : (room : List ℕ) → recordSize ≤ length rec → roomSize ≤ length room → Made rec′ room

@@ -1,4 +1,4 @@
--- Reassembly (document 01, "Reassembly" and "Numbers returned", rows 50 to 60): what the store does with a piece, and a sweep.
+-- Reassembly (document 01, "Reassembly" and "Numbers returned", rows 50 to 60; document 02, P5, row 57): what the store does with a piece, and a sweep.
 use mathlib.Core.Bool.{Bool, true, false, cond, _&&_, _||_, Bool·beq}
 use mathlib.Core.List.{List, [], _∷_, _++_, map}
 use mathlib.Core.Option.{Option, none, some}
@@ -6,7 +6,8 @@ use Prim.Native.Nat.{ℕ, suc, _+_}
 use lib.ListN.{length, getD, take, drop, set, replicate}
 use lib.Dec.{ltb, leb, eqb}
 use Rattle.wire.specs.Parts.{same}
-use Rattle.reassembly.specs.Sizes.{messageSize}
+use Rattle.reassembly.specs.Sizes.{messageSize, mostRemembered}
+use Rattle.reassembly.specs.Memory.{Memory, remembers, remember, forget}
 
 -- A piece: a first fragment (number 0, with the message's head) or a follow-on fragment (a number, and whether it is the last).
 pub data Piece : Type 0 where
@@ -43,13 +44,22 @@ pub record Message : Type 0 where
   pub last : ℕ
   pub table : List (List ℕ)
 
--- 16 slots, each free or a message
-abbrev pub Store : Type 0
-Store = List (Option Message)
+-- the slots for open messages: 16, each free or a message
+abbrev pub Slots : Type 0
+Slots = List (Option Message)
 
--- all of them free
-abbrev pub empty : Store
+-- no message is open
+abbrev pub empty : Slots
 empty = replicate 16 none
+
+-- The store: the slots, and the finished messages that are remembered.
+pub record Store : Type 0 where
+  pub slots : Slots
+  pub remembered : Memory
+
+-- a new one: no message is open, none is remembered
+abbrev pub newStore : Store
+newStore = record { slots = empty; remembered = [] }
 
 -- What comes out when a message is finished: its head and its bytes.
 pub record Rebuilt : Type 0 where
@@ -57,11 +67,17 @@ pub record Rebuilt : Type 0 where
   pub expires : ℕ
   pub bytes : List ℕ
 
--- A call's answer: the number, the message that came out, the next store.
+-- The store's answer: the number, the message that came out, the next store.
 pub record Answer : Type 0 where
   pub number : ℕ
   pub out : Option Rebuilt
   pub store : Store
+
+-- The slots' part of it: the number, the message that came out, the next slots.
+pub record SlotsAnswer : Type 0 where
+  pub number : ℕ
+  pub out : Option Rebuilt
+  pub slots : Slots
 
 -- Whether a number is held: a held piece has bytes.
 abbrev pub isHeld : List ℕ → Bool
@@ -89,19 +105,19 @@ joined [] = []
 joined (x ∷ xs) = x ++ joined xs
 
 -- The slot of the open message with this id; where there is none, the number of slots.
-unfoldable pub findId : ℕ → Store → ℕ
+unfoldable pub findId : ℕ → Slots → ℕ
 findId id [] = 0
 findId id (none ∷ s) = suc (findId id s)
 findId id (some m ∷ s) = cond (eqb (m .id) id) 0 (suc (findId id s))
 
 -- The first free slot; where there is none, the number of slots.
-unfoldable pub findFree : Store → ℕ
+unfoldable pub findFree : Slots → ℕ
 findFree [] = 0
 findFree (none ∷ s) = 0
 findFree (some m ∷ s) = suc (findFree s)
 
 -- Where a piece of this id goes: to its open message, else to the first free slot.
-unfoldable pub slotOf : ℕ → Store → ℕ
+unfoldable pub slotOf : ℕ → Slots → ℕ
 slotOf id s = cond (ltb (findId id s) (length s)) (findId id s) (findFree s)
 
 -- What stands there: the open message, or a new one with nothing held.
@@ -155,40 +171,63 @@ rebuiltOf m = record { kind = m .kind; expires = m .expires; bytes = joined (tak
 unfoldable pub tooShort : ℕ → Message → Bool
 tooShort cap m = ltb cap (length (rebuiltOf m .bytes))
 
--- A refusal: its number, and the store as it was.
-unfoldable pub refused : ℕ → Store → Answer
-refused n s = record { number = n; out = none; store = s }
+-- A piece that the slots refuse: its number, and the slots as they were.
+unfoldable pub slotsRefuse : ℕ → Slots → SlotsAnswer
+slotsRefuse n s = record { number = n; out = none; slots = s }
 
 -- The answer to a piece for the message m in slot k, in the order of the numbers' table; 52 where there is no slot k. `cap` is the assembly buffer's length.
-unfoldable pub answer : ℕ → Store → Piece → ℕ → Message → Answer
+unfoldable pub answer : ℕ → Slots → Piece → ℕ → Message → SlotsAnswer
 answer cap s p k m =
-    cond (badLength p) (refused 50 s)
-    (cond (badNumber p) (refused 51 s)
-    (cond (repeats m p) (refused 54 s)
-    (cond (clashes m p) (refused 55 s)
-    (cond (leb 16 k) (refused 52 s)
-    (cond (tooMuch m p) (refused 53 s)
+    cond (repeats m p) (slotsRefuse 54 s)
+    (cond (clashes m p) (slotsRefuse 55 s)
+    (cond (leb (length s) k) (slotsRefuse 52 s)
+    (cond (tooMuch m p) (slotsRefuse 53 s)
     (cond (complete (plus m p))
-    (cond (tooShort cap (plus m p)) (refused 56 s)
-    (record { number = 60; out = some (rebuiltOf (plus m p)); store = set s k none }))
-    (record { number = 0; out = none; store = set s k (some (plus m p)) })))))))
+    (cond (tooShort cap (plus m p)) (slotsRefuse 56 s)
+    (record { number = 60; out = some (rebuiltOf (plus m p)); slots = set s k none }))
+    (record { number = 0; out = none; slots = set s k (some (plus m p)) })))))
 
--- A piece comes at a second.
-unfoldable pub step : ℕ → Store → Piece → ℕ → Answer
-step cap s p second =
+-- A piece comes to the slots at a second: to its open message, or to a new one in the first free slot.
+unfoldable pub slotsStep : ℕ → Slots → Piece → ℕ → SlotsAnswer
+slotsStep cap s p second =
     let k : ℕ = slotOf (idOf p) s in
     answer cap s p k (messageOr (getD s k none) (idOf p) second)
+
+-- A refusal: its number, and the store as it was.
+abbrev pub refused : ℕ → Store → Answer
+refused n s = record { number = n; out = none; store = s }
+
+-- The store with what the slots answer to a piece of the message `id`: with 60 the message is finished, and remembered with this second.
+abbrev pub settled : ℕ → Store → ℕ → ℕ → SlotsAnswer → Answer
+settled keep s id second a =
+    record {
+      number = a .number;
+      out = a .out;
+      store = record { slots = a .slots; remembered = cond (eqb (a .number) 60) (remember keep (s .remembered) (record { id = id; second = second })) (s .remembered) };
+    }
+
+-- A piece comes to the store at a second: 50, 51, then 57 where its id is remembered, then the slots answer. `keep` finished messages are remembered at most.
+unfoldable pub step : ℕ → ℕ → Store → Piece → ℕ → Answer
+step keep cap s p second =
+    cond (badLength p) (refused 50 s)
+    (cond (badNumber p) (refused 51 s)
+    (cond (remembers (s .remembered) (idOf p)) (refused 57 s)
+    (settled keep s (idOf p) second (slotsStep cap (s .slots) p second))))
 
 -- A sweep at a second frees a slot where that second is at least 30 above the one of the piece that opened the message.
 unfoldable pub sweptOne : ℕ → Option Message → Option Message
 sweptOne second none = none
 sweptOne second (some m) = cond (leb (m .opened + 30) second) none (some m)
 
--- It drops exactly those messages.
-unfoldable pub sweep : ℕ → Store → Store
-sweep second s = map (sweptOne second) s
+-- It drops exactly those messages,
+unfoldable pub slotsSweep : ℕ → Slots → Slots
+slotsSweep second s = map (sweptOne second) s
+
+-- and forgets the finished ones that are due. A message that it drops did not finish, and is not remembered.
+abbrev pub sweep : ℕ → Store → Store
+sweep second s = record { slots = slotsSweep second (s .slots); remembered = forget second (s .remembered) }
 
 -- The numbers that a run of pieces is answered by, all at the second 0, with 65,535 bytes to assemble in.
 abbrev pub stepNumbers : Store → List Piece → List ℕ
 stepNumbers s [] = []
-stepNumbers s (p ∷ ps) = step messageSize s p 0 .number ∷ stepNumbers (step messageSize s p 0 .store) ps
+stepNumbers s (p ∷ ps) = step mostRemembered messageSize s p 0 .number ∷ stepNumbers (step mostRemembered messageSize s p 0 .store) ps

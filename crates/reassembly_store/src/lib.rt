@@ -9,7 +9,7 @@ ghost use mathlib.Core.Path.{_≡_};
 ghost use mathlib.Core.Bool.{false, cond};
 ghost use Prim.Native.Nat.{_<_, _≤_};
 ghost use lib.ListN.{length};
-ghost use Rattle.reassembly.specs.Sizes.{recordSize};
+ghost use Rattle.reassembly.specs.Sizes.{mostRemembered, recordSize};
 ghost use Rattle.reassembly.specs.Store.{first, follow, step};
 ghost use Rattle.reassembly.specs.Calls.{lent, after, lentShort, badSize, offNumber, firstCall, followOnCall, sweptAt, sweptTo, swept, renewed, renewal};
 ghost use Rattle.reassembly.specs.Stands.{stands, Made, Agrees, SweepAgrees, NewAgrees};
@@ -60,7 +60,7 @@ pub fn first_fragment(
     bytes: &[u8],
 ) -> Reply
     ensures { λ r. ⌜ after r (lent (now (rec .exit)) (now (room .exit)) (now (out .exit))) ≡ firstCall (lent (now (rec .entry)) (now (room .entry)) (now (out .entry))) (record { id = id; number = 0; last = false; kind = kind; expires = expires }) second (now (bytes .entry)) ⌝ }
-    ensures { λ r. ⌜ (Made (now (rec .entry)) (now (room .entry)) → Agrees (now (out .entry)) (after r (lent (now (rec .exit)) (now (room .exit)) (now (out .exit)))) (step (length (now (out .entry))) (stands (now (rec .entry)) (now (room .entry))) (first id kind expires (now (bytes .entry))) second)) ⌝ }
+    ensures { λ r. ⌜ (Made (now (rec .entry)) (now (room .entry)) → Agrees (now (out .entry)) (after r (lent (now (rec .exit)) (now (room .exit)) (now (out .exit)))) (step mostRemembered (length (now (out .entry))) (stands (now (rec .entry)) (now (room .entry))) (first id kind expires (now (bytes .entry))) second)) ⌝ }
 {
     if is_short(rec, room) {
         return bare(59);
@@ -90,7 +90,7 @@ pub fn follow_on_fragment(
     bytes: &[u8],
 ) -> Reply
     ensures { λ r. ⌜ after r (lent (now (rec .exit)) (now (room .exit)) (now (out .exit))) ≡ followOnCall (lent (now (rec .entry)) (now (room .entry)) (now (out .entry))) (record { id = id; number = number; last = last; kind = 0; expires = 0 }) second (now (bytes .entry)) ⌝ }
-    ensures { λ r. ⌜ (Made (now (rec .entry)) (now (room .entry)) → Agrees (now (out .entry)) (after r (lent (now (rec .exit)) (now (room .exit)) (now (out .exit)))) (step (length (now (out .entry))) (stands (now (rec .entry)) (now (room .entry))) (follow id number last (now (bytes .entry))) second)) ⌝ }
+    ensures { λ r. ⌜ (Made (now (rec .entry)) (now (room .entry)) → Agrees (now (out .entry)) (after r (lent (now (rec .exit)) (now (room .exit)) (now (out .exit)))) (step mostRemembered (length (now (out .entry))) (stands (now (rec .entry)) (now (room .entry))) (follow id number last (now (bytes .entry))) second)) ⌝ }
 {
     if is_short(rec, room) {
         return bare(59);
@@ -131,7 +131,7 @@ fn sweep_all(rec: &mut [u8], second: u64)
     }
 }
 
-// Drops the messages that were opened 30 seconds ago or earlier; answers 0.
+// Drops the messages that were opened 30 seconds ago or earlier, and forgets those that finished then; answers 0.
 pub fn sweep(rec: &mut [u8], second: u64) -> u8
     ensures { λ r. ⌜ (r ≡ 0) × (now (rec .exit) ≡ swept second (now (rec .entry))) ⌝ }
     ensures { λ _. ⌜ SweepAgrees second (now (rec .entry)) (now (rec .exit)) ⌝ }
@@ -140,6 +140,7 @@ pub fn sweep(rec: &mut [u8], second: u64) -> u8
         return 0;
     }
     sweep_all(rec, second);
+    reassembly_memory::forget(rec, second);
     0
 }
 

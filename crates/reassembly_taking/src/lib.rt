@@ -13,7 +13,7 @@ ghost use mathlib.Core.List.{List};
 ghost use Prim.Native.Nat.{ℕ, _+_, _<_, _≤_};
 ghost use lib.ListN.{length};
 ghost use Rattle.reassembly.specs.Sizes.{slotSize, roomSize, recordSize};
-ghost use Rattle.reassembly.specs.Calls.{lent, after, bare, keptRec, keptRoom, finished, putIn, compared, added, openedIn, openedNow, takenPiece};
+ghost use Rattle.reassembly.specs.Calls.{lent, after, bare, keptRec, keptRoom, finished, putIn, compared, added, openedIn, openedNow, settledRec, takenPiece};
 
 pub fn bare(n: u8) -> Reply
     ensures { λ r. ⌜ r ≡ bare n ⌝ }
@@ -144,11 +144,14 @@ fn open_in(rec: &mut [u8], room: &mut [u8], i: usize, l: Label, second: u64, byt
     keep(rec, room, i, usize_from_u8(l.number), 0, g, bytes);
 }
 
-// A piece of a message that is not open: 52, or it is kept in the first free slot.
+// A piece of a message that is not open: 57 where its id is remembered, or 52, or it is kept in the first free slot.
 fn open(rec: &mut [u8], room: &mut [u8], l: Label, second: u64, bytes: &[u8]) -> Reply
     requires { ⌜ (recordSize ≤ length (now rec)) × (roomSize ≤ length (now room)) × (l .number < 128) × (length (now bytes) ≤ 1500) ⌝ }
     ensures { λ r. ⌜ ((out : List ℕ) → after r (lent (now (rec .exit)) (now (room .exit)) out) ≡ openedNow (lent (now (rec .entry)) (now (room .entry)) out) l second (now (bytes .entry))) ⌝ }
 {
+    if reassembly_memory::remembers(rec, l.id) {
+        return bare(57);
+    }
     let i = reassembly_slots::vacant(rec);
     if 16 <= i {
         return bare(52);
@@ -157,7 +160,18 @@ fn open(rec: &mut [u8], room: &mut [u8], l: Label, second: u64, bytes: &[u8]) ->
     bare(0)
 }
 
-// A piece of any message.
+// A piece was answered n: with 60 its message is finished, and remembered with this second.
+fn settle(rec: &mut [u8], n: u8, id: u32, second: u64)
+    requires { ⌜ recordSize ≤ length (now rec) ⌝ }
+    ensures { λ _. ⌜ now (rec .exit) ≡ settledRec (now (rec .entry)) n (record { id = id; second = second }) ⌝ }
+{
+    if n == 60 {
+        reassembly_memory::remember(rec, id, second);
+        return;
+    }
+}
+
+// A piece of any message. Only one that would open a message looks through what is remembered.
 pub fn take(
     rec: &mut [u8],
     room: &mut [u8],
@@ -171,7 +185,9 @@ pub fn take(
 {
     let i = reassembly_slots::find(rec, l.id);
     if i < 16 {
-        return add(rec, room, out, i, l, bytes);
+        let r = add(rec, room, out, i, l, bytes);
+        settle(rec, r.number, l.id, second);
+        return r;
     }
     open(rec, room, l, second, bytes)
 }

@@ -1,4 +1,4 @@
-// Store calls: the record is 8,576 bytes and the room 1,048,560 bytes that the caller keeps, as the last call left them.
+// Store calls: the record is 9,345 bytes and the room 1,048,560 bytes that the caller keeps, as the last call left them.
 ghost use mathlib.Core.Path.{_≡_};
 ghost use mathlib.Core.Bool.{false, not};
 ghost use lib.Dec.{eqb};

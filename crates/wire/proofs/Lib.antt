@@ -4,6 +4,7 @@ pub mod Parts
 pub mod Same
 pub mod Numbers
 pub mod Copying
+pub mod Moving
 pub mod Lent
 pub mod Slices
 pub mod Zeros

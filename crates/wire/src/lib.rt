@@ -1,8 +1,8 @@
-// Bytes copied and compared, lengths; what parts of a list and numbers in bytes are, and the laws that all crates share.
+// Bytes copied, moved and compared, lengths; what parts of a list and numbers in bytes are, and the laws that all crates share.
 ghost use mathlib.Core.Path.{_≡_};
 ghost use Prim.Native.Nat.{_+_, _<_, _≤_, min};
 ghost use lib.ListN.{length};
-ghost use Rattle.wire.specs.Parts.{splice, same};
+ghost use Rattle.wire.specs.Parts.{part, splice, same};
 
 // src stands in dst from a place on; every other byte stays.
 pub fn copy_to(dst: &mut [u8], at: usize, src: &[u8])
@@ -13,6 +13,18 @@ pub fn copy_to(dst: &mut [u8], at: usize, src: &[u8])
     let mut i = 0;
     while i < n {
         dst[at + i] = src[i];
+        i += 1;
+    }
+}
+
+// n bytes from a place on move down to another; every other byte stays.
+pub fn move_down(b: &mut [u8], to: usize, from: usize, n: usize)
+    requires { ⌜ (to ≤ from) × (from + n ≤ length (now b)) ⌝ }
+    ensures { λ _. ⌜ now (b .exit) ≡ splice (now (b .entry)) to (part (now (b .entry)) from n) ⌝ }
+{
+    let mut i = 0;
+    while i < n {
+        b[to + i] = b[from + i];
         i += 1;
     }
 }

@@ -28,6 +28,8 @@ pub const ROWS: &[Row] = &[
     ("44 pieces of 1,500 bytes", long_message),
     ("17 messages open, then each one's last", seventeen),
     ("0=`0a` at second 0, a sweep at 30, 1 last=`0b`", lapse),
+    ("0=`0a`, 1 last=`0b`, then both again", sent_again),
+    ("0=`0a`, 1 last=`0b`, 1 last=`0b` again, then 0=`0c`", late_piece),
 ];
 
 /// One id, type 20, expiration 9, on both sides; what each said of every piece.
@@ -146,6 +148,19 @@ fn seventeen() -> Seen {
     let rust = done.said[17..].iter().all(|(r, _)| finished(r));
     let ours = done.said[17..33].iter().all(|(_, o)| finished(o));
     (rust, ours && done.said[16].1 == Refused(52) && done.said[33].1 == Kept)
+}
+
+fn sent_again() -> Seen {
+    let both = Both::new().first(0x0a).last(1, 0x0b).first(0x0a).last(1, 0x0b);
+    let whole = || message(&[10, 11]);
+    both.seen([Kept, whole(), Kept, whole()], [Kept, whole(), Refused(57), Refused(57)])
+}
+
+/// The late piece waits in the Rust, and is joined to another message's first.
+fn late_piece() -> Seen {
+    let both = Both::new().first(0x0a).last(1, 0x0b).last(1, 0x0b).first(0x0c);
+    let whole = || message(&[10, 11]);
+    both.seen([Kept, whole(), Kept, message(&[12, 11])], [Kept, whole(), Refused(57), Refused(57)])
 }
 
 /// The Rust looks only every 300 seconds.

@@ -1,4 +1,4 @@
-use Rattle.reassembly.proofs.Steps.{first-promise}
+use Rattle.reassembly.proofs.Taken.{first-promise}
 use mathlib.Core.Path.{sym, _∙_}
 use mathlib.Core.Bool.{false}
 use lib.ListN.{length}

@@ -1,4 +1,4 @@
-use Rattle.reassembly.proofs.Steps.{follow-promise}
+use Rattle.reassembly.proofs.Taken.{follow-promise}
 use mathlib.Core.Path.{_≡_, refl, sym, ap, _∙_}
 use mathlib.Core.Bool.{Bool, true, false, cond}
 use mathlib.Core.List.{List}

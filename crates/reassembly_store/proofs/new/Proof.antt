@@ -1,5 +1,5 @@
 use Rattle.reassembly.specs.Sizes.{recordSize}
-use Rattle.reassembly.proofs.Sweeps.{new-promise}
+use Rattle.reassembly.proofs.Swept.{new-promise}
 use mathlib.Core.Path.{_≡_, refl}
 use borrow.Author.Tests.{lt-ltb, le-ltb}
 use mathlib.Core.Bool.{true, false}
