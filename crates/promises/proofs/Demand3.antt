@@ -13,7 +13,7 @@ use lib.Dec.{eqb}
 use borrow.Author.Tests.{eq-eqb, ne-eqb}
 use Rattle.reassembly.specs.Sizes.{messageSize, mostRemembered}
 use Rattle.reassembly.specs.Memory.{Memory, remembers, remember, forget}
-use Rattle.reassembly.specs.Store.{Piece, idOf, Message, Slots, Store, badLength, badNumber, slotsStep, refused, settled}
+use Rattle.reassembly.specs.Store.{Piece, idOf, Message, Slots, Store, badLength, badNumber, slotsStep, refused, answerBySlots}
 use Rattle.reassembly.proofs.Stores.{none≢some, all-same}
 use Rattle.reassembly.proofs.Memories.{remember-other, forget-remembers}
 use Rattle.reassembly.proofs.Moves.{step-57, step-slots}
@@ -162,11 +162,11 @@ module _ (slots keep cap : ℕ) (room : messageSize ≤ cap) (cs : List Cut) (wi
       unfolding slotsSaid
       number-is = ap (λ (r : Said). eqb (r .number) 60) (taken .0) ∙ sixty cs ts c i second nd
 
-      answer-is : act keep cap cs s (deliver c i second) ≡ settled keep s id second (slotsStep cap (s .slots) p second)
+      answer-is : act keep cap cs s (deliver c i second) ≡ answerBySlots keep s id second (slotsStep cap (s .slots) p second)
       unfolding act
       answer-is =
           step-slots keep cap s p second not-50 not-51 (is-remembered false strange)
-          ∙ ap (λ (n : ℕ). settled keep s n second (slotsStep cap (s .slots) p second)) (id-piece (cutAt cs c) i)
+          ∙ ap (λ (n : ℕ). answerBySlots keep s n second (slotsStep cap (s .slots) p second)) (id-piece (cutAt cs c) i)
 
       other-open : (d : ℕ) → d ≢ c → isOpen (tallyAt ts′ d) ≡ true → isOpen (tallyAt ts d) ≡ true
       unfolding tallied
@@ -207,10 +207,10 @@ module _ (slots keep cap : ℕ) (room : messageSize ≤ cap) (cs : List Cut) (wi
           said-is : saidOf (act keep cap cs s (deliver c i second)) ≡ dueOne cs ts (deliver c i second)
           said-is = ap saidOf answer-is ∙ (unfold saidOf slotsSaid in (taken .0))
 
-          inv′ : Inv slots cs ts′ (settled keep s id second (slotsStep cap (s .slots) p second) .store .slots)
+          inv′ : Inv slots cs ts′ (answerBySlots keep s id second (slotsStep cap (s .slots) p second) .store .slots)
           inv′ = (taken .1)
 
-          memory-is : settled keep s id second (slotsStep cap (s .slots) p second) .store .remembered
+          memory-is : answerBySlots keep s id second (slotsStep cap (s .slots) p second) .store .remembered
               ≡ cond (done t′) (remember keep (h .remembered) (record { id = id; second = second })) (h .remembered)
           memory-is = rw (number-is, v .same) refl
 

@@ -12,7 +12,7 @@ use lib.Seq.{getD-set-same, getD-set-other}
 use lib.Dec.{ltb, eqb}
 use borrow.Author.Tests.{ltb-true, ltb-false}
 use Rattle.reassembly.specs.Memory.{remembers, remember}
-use Rattle.reassembly.specs.Store.{Piece, idOf, Message, Slots, Store, newStore, Answer, SlotsAnswer, slotOf, slotsStep, settled, step, slotsSweep, sweep}
+use Rattle.reassembly.specs.Store.{Piece, idOf, Message, Slots, Store, newStore, Answer, SlotsAnswer, slotOf, slotsStep, answerBySlots, step, slotsSweep, sweep}
 use Rattle.reassembly.specs.Apart.{Apart}
 use Rattle.reassembly.proofs.Stores.{none≢some, all-same, Hit, place-open, sweep-free, sweep-drops}
 use Rattle.reassembly.proofs.Memories.{remember-other, forget-remembers, remember-most, forget-most, remember-distinct, forget-distinct}
@@ -91,14 +91,14 @@ module _ (keep : ℕ) (s : Store) (v : Apart keep s) (id : ℕ) (strange : remem
       away l n e z = none≢some (getD (set (s .slots) k none) k none) n (at-k none) (ap (λ (i : ℕ). getD (set (s .slots) k none) i none) (sym z) ∙ e)
 
 -- the store after what the slots answered, by what became of them
-settled-stayed : (keep : ℕ) (s : Store) (id second : ℕ) (a : SlotsAnswer) → a .slots ≡ s .slots → eqb (a .number) 60 ≡ false → settled keep s id second a .store ≡ s
-settled-stayed keep s id second a e n = rw (e, n) refl
+by-slots-stayed : (keep : ℕ) (s : Store) (id second : ℕ) (a : SlotsAnswer) → a .slots ≡ s .slots → eqb (a .number) 60 ≡ false → answerBySlots keep s id second a .store ≡ s
+by-slots-stayed keep s id second a e n = rw (e, n) refl
 
-settled-apart : (keep : ℕ) → 1 ≤ keep → (s : Store) → Apart keep s → (id second : ℕ) → remembers (s .remembered) id ≡ false → (a : SlotsAnswer) → Moved (s .slots) id a
-    → Apart keep (settled keep s id second a .store)
-settled-apart keep hk s v id second r a (stayed e n z f) = subst (Apart keep) (sym (settled-stayed keep s id second a e n)) v
-settled-apart keep hk s v id second r a (kept m q i e n) = rw (e, n) (kept-apart keep s v id r i m q)
-settled-apart keep hk s v id second r a (finished o i e n) = rw (e, n) (finished-apart keep s v id r i hk _)
+by-slots-apart : (keep : ℕ) → 1 ≤ keep → (s : Store) → Apart keep s → (id second : ℕ) → remembers (s .remembered) id ≡ false → (a : SlotsAnswer) → Moved (s .slots) id a
+    → Apart keep (answerBySlots keep s id second a .store)
+by-slots-apart keep hk s v id second r a (stayed e n z f) = subst (Apart keep) (sym (by-slots-stayed keep s id second a e n)) v
+by-slots-apart keep hk s v id second r a (kept m q i e n) = rw (e, n) (kept-apart keep s v id r i m q)
+by-slots-apart keep hk s v id second r a (finished o i e n) = rw (e, n) (finished-apart keep s v id r i hk _)
 
 -- A piece keeps the ids apart.
 pub step-apart : (keep : ℕ) → 1 ≤ keep → (cap : ℕ) (s : Store) → Apart keep s → (p : Piece) (second : ℕ) → Apart keep (step keep cap s p second .store)
@@ -108,7 +108,7 @@ step-apart keep hk cap s v p second = go (step keep cap s p second) (stepped kee
     go a (is-50 e q) = rw q v
     go a (is-51 e f q) = rw q v
     go a (is-57 e f r q) = rw q v
-    go a (by-slots e f r q) = rw q (settled-apart keep hk s v (idOf p) second r (slotsStep cap (s .slots) p second) (moved cap (s .slots) p second f))
+    go a (by-slots e f r q) = rw q (by-slots-apart keep hk s v (idOf p) second r (slotsStep cap (s .slots) p second) (moved cap (s .slots) p second f))
 
 -- ---- a sweep
 
@@ -140,21 +140,3 @@ pub open-unremembered : (keep : ℕ) (s : Store) → Apart keep s → (id : ℕ)
 open-unremembered keep s v id o =
     let h : Hit id (s .slots) (slotOf id (s .slots)) = open-hit id (s .slots) o in
     ap (remembers (s .remembered)) (sym (h .its-id)) ∙ v .open-alone (slotOf id (s .slots)) (h .there) (h .is-there)
-
-settled-stays : (keep : ℕ) (s : Store) (id second : ℕ) (a : SlotsAnswer) → Moved (s .slots) id a → a .number ≢ 0 → a .number ≢ 60 → settled keep s id second a .store ≡ s
-settled-stays keep s id second a (stayed e n z f) h g = settled-stayed keep s id second a e n
-settled-stays keep s id second a (kept m q i e n) h g = absurd (h n)
-settled-stays keep s id second a (finished o i e n) h g = absurd (g n)
-
--- A refusal leaves the store.
-pub refusal-stays : (keep cap : ℕ) (s : Store) (p : Piece) (second : ℕ) → step keep cap s p second .number ≢ 0 → step keep cap s p second .number ≢ 60 → step keep cap s p second .store ≡ s
-refusal-stays keep cap s p second = go (step keep cap s p second) (stepped keep cap s p second)
-  where
-    go : (a : Answer) → Stepped keep cap s p second a → a .number ≢ 0 → a .number ≢ 60 → a .store ≡ s
-    go a (is-50 e q) h g = rw q refl
-    go a (is-51 e f q) h g = rw q refl
-    go a (is-57 e f r q) h g = rw q refl
-    go a (by-slots e f r q) h g =
-        let n : a .number ≡ slotsStep cap (s .slots) p second .number = ap (λ (x : Answer). x .number) q in
-        ap (λ (x : Answer). x .store) q
-        ∙ settled-stays keep s (idOf p) second (slotsStep cap (s .slots) p second) (moved cap (s .slots) p second f) (λ z. h (n ∙ z)) (λ z. g (n ∙ z))

@@ -21,7 +21,7 @@ use Rattle.reassembly.specs.Memory.{Finished, remembers}
 use Rattle.reassembly.specs.Remembered.{memoryOf, rememberedIn}
 use Rattle.reassembly.specs.Joining.{messageOf, joinsOutside}
 use Rattle.reassembly.specs.Judge.{pick, sameLabel, again, misfits, moreOf, grownBy, isComplete, newHead, noHead, isOld}
-use Rattle.reassembly.specs.Calls.{lent, After, after, bare, keptRec, keptRoom, finished, putIn, compared, added, openedIn, openedNow, settledRec, settledIn, takenPiece, lentShort, badSize, offNumber, firstCall, followOnCall, sweptAt, sweptTo}
+use Rattle.reassembly.specs.Calls.{lent, After, after, bare, keptRec, keptRoom, finished, putIn, compared, added, openedIn, openedNow, rememberedAfter, withRemembered, takenPiece, lentShort, badSize, offNumber, firstCall, followOnCall, sweptAt, sweptTo}
 
 -- a message that is whole has a last number below 128
 pub whole-last : (h : Head) → isComplete h ≡ true → h .last < 128
@@ -155,13 +155,13 @@ module _ (rec room out : List ℕ) (l : Label) (second : ℕ) (v : List ℕ) whe
       rw (sym m ∙ f, lt-leb 16 (firstFrom (isFree rec) 0 16) (omega arith)) (q ∙ ap (λ (z : ℕ). openedIn (lent rec room out) z l second v) e)
 
   pub taken-added : (x : After) (rec′ : List ℕ) (i : ℕ) → i ≡ firstFrom (isOpenAs rec (l .id)) 0 16 → i < 16 → x ≡ added (lent rec room out) i l v
-      → rec′ ≡ settledRec (x .left .rec) (x .reply .number) (record { id = l .id; second = second })
+      → rec′ ≡ rememberedAfter (x .left .rec) (x .reply .number) (record { id = l .id; second = second })
       → after (x .reply) (lent rec′ (x .left .room) (x .left .out)) ≡ takenPiece (lent rec room out) l second v
   unfolding takenPiece
   taken-added x rec′ i e t q r =
       rw (lt-ltb (firstFrom (isOpenAs rec (l .id)) 0 16) 16 (omega arith))
       (ap (λ (z : List ℕ). after (x .reply) (lent z (x .left .room) (x .left .out))) r
-      ∙ ap (settledIn l second) (q ∙ ap (λ (z : ℕ). added (lent rec room out) z l v) e))
+      ∙ ap (withRemembered l second) (q ∙ ap (λ (z : ℕ). added (lent rec room out) z l v) e))
 
   pub taken-opened : (x : After) (i : ℕ) → i ≡ firstFrom (isOpenAs rec (l .id)) 0 16 → 16 ≤ i → x ≡ openedNow (lent rec room out) l second v → x ≡ takenPiece (lent rec room out) l second v
   unfolding takenPiece
@@ -195,14 +195,14 @@ module _ (rec room out : List ℕ) (l : Label) (second : ℕ) (v : List ℕ) whe
   unfolding followOnCall
   follow-taken x t s n q = rw (t, s, n) q
 
--- a record is settled: with 60 the message is remembered
-pub settled-60 : (rec rec′ : List ℕ) (n : ℕ) (f : Finished) → n ≡ 60 → rec′ ≡ rememberedIn rec f → rec′ ≡ settledRec rec n f
-unfolding settledRec
-settled-60 rec rec′ n f e q = rw (eq-eqb n 60 e) q
+-- a record is answerBySlots: with 60 the message is remembered
+pub remembered-60 : (rec rec′ : List ℕ) (n : ℕ) (f : Finished) → n ≡ 60 → rec′ ≡ rememberedIn rec f → rec′ ≡ rememberedAfter rec n f
+unfolding rememberedAfter
+remembered-60 rec rec′ n f e q = rw (eq-eqb n 60 e) q
 
-pub settled-not : (rec : List ℕ) (n : ℕ) (f : Finished) → (n ≡ 60 → ⊥) → rec ≡ settledRec rec n f
-unfolding settledRec
-settled-not rec n f e = rw (ne-eqb n 60 e) refl
+pub remembered-not : (rec : List ℕ) (n : ℕ) (f : Finished) → (n ≡ 60 → ⊥) → rec ≡ rememberedAfter rec n f
+unfolding rememberedAfter
+remembered-not rec n f e = rw (ne-eqb n 60 e) refl
 
 -- what the tests that were passed say of the lengths and the number
 pub long-lent : (rec room : List ℕ) → lentShort rec room ≡ false → (recordSize ≤ length rec) × (roomSize ≤ length room)

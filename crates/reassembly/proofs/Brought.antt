@@ -10,7 +10,7 @@ use lib.ListN.{length}
 use borrow.Author.Tests.{ltb-false}
 use Rattle.wire.specs.Parts.{splice}
 use Rattle.reassembly.specs.Memory.{remembers}
-use Rattle.reassembly.specs.Store.{Piece, Message, Slots, Store, Rebuilt, Answer, SlotsAnswer, idOf, slotOf, plus, badLength, badNumber, repeats, clashes, tooMuch, complete, rebuiltOf, tooShort, slotsRefuse, answer, slotsStep, refused, settled, step}
+use Rattle.reassembly.specs.Store.{Piece, Message, Slots, Store, Rebuilt, Answer, SlotsAnswer, idOf, slotOf, plus, badLength, badNumber, repeats, clashes, tooMuch, complete, rebuiltOf, tooShort, slotsRefuse, answer, slotsStep, refused, answerBySlots, step}
 use Rattle.reassembly.specs.Calls.{After}
 use Rattle.reassembly.specs.Stands.{Agrees, replyFor, laidOut}
 use Rattle.reassembly.proofs.Refines.{number-of}
@@ -54,7 +54,7 @@ pub step-sober : (keep cap : ℕ) (s : Store) (p : Piece) (second : ℕ) → Sob
 unfolding step slotsStep
 step-sober keep cap s p second = go (badLength p) (badNumber p) (remembers (s .remembered) (idOf p))
   where
-    go : (b c d : Bool) → let x : Answer = cond b (refused 50 s) (cond c (refused 51 s) (cond d (refused 57 s) (settled keep s (idOf p) second (slotsStep cap (s .slots) p second)))) in
+    go : (b c d : Bool) → let x : Answer = cond b (refused 50 s) (cond c (refused 51 s) (cond d (refused 57 s) (answerBySlots keep s (idOf p) second (slotsStep cap (s .slots) p second)))) in
         Sober cap (x .number) (x .out)
     go true c d = quiet cap 50 (λ e. omega arith)
     go false true d = quiet cap 51 (λ e. omega arith)

@@ -1,13 +1,14 @@
 -- Laws of what is remembered. Assumes nothing.
 use mathlib.Core.Path.{_≡_, refl, sym, ap, _∙_}
 use mathlib.Core.Logic.{_≢_}
-use mathlib.Core.Bool.{Bool, true, false, cond, _||_, true≢false, false≢true, or-true, or-false, or-assoc}
+use mathlib.Core.Bool.{Bool, true, false, cond, _||_, or-true, or-false, or-assoc}
 use mathlib.Core.List.{[], _∷_, _++_}
 use Prim.Native.Nat.{ℕ, suc, _+_, _≤_, _<_}
 use native.Mathlib.Omega.{arith}
 use lib.ListN.{length, drop, length-append, length-drop}
 use lib.Dec.{ltb, eqb}
 use borrow.Author.Tests.{eq-eqb, ne-eqb, eqb-false, le-ltb, ltb-true}
+use Rattle.wire.proofs.Tests.{or-neither}
 use Rattle.reassembly.specs.Memory.{Finished, Memory, remembers, remember, isDue, forget}
 use Rattle.reassembly.specs.Apart.{Distinct}
 
@@ -29,26 +30,6 @@ forget-more second (g ∷ fs) f = go (isDue second g) (forget-more second fs f)
     go true ih = ih
     go false ih = ap (λ (z : Memory). g ∷ z) ih
 
--- one more makes none forgotten
-append-stays : (fs gs : Memory) (id : ℕ) → remembers fs id ≡ true → remembers (fs ++ gs) id ≡ true
-unfolding remembers
-append-stays [] gs id e = absurd (false≢true e)
-append-stays (f ∷ fs) gs id e = go (eqb (f .id) id) e (append-stays fs gs id)
-  where
-    go : (b : Bool) → (b || remembers fs id) ≡ true → (remembers fs id ≡ true → remembers (fs ++ gs) id ≡ true) → (b || remembers (fs ++ gs) id) ≡ true
-    go true h ih = refl
-    go false h ih = ih h
-
--- A message that finishes pushes out the first at most: the others stay remembered.
-pub others-stay : (keep : ℕ) (fs : Memory) (f : Finished) (id : ℕ) → remembers (drop 1 fs) id ≡ true → remembers (remember keep fs f) id ≡ true
-unfolding remember remembers
-others-stay keep fs f id e = append-stays (cond (ltb (length fs) _) fs (drop 1 fs)) (f ∷ []) id (go (ltb (length fs) _) fs e)
-  where
-    go : (b : Bool) (fs : Memory) → remembers (drop 1 fs) id ≡ true → remembers (cond b fs (drop 1 fs)) id ≡ true
-    go false fs e = e
-    go true [] e = e
-    go true (g ∷ fs) e = rw e (or-true (eqb (g .id) id))
-
 -- Never more are remembered than may be.
 pub remember-most : (keep : ℕ) (fs : Memory) (f : Finished) → 1 ≤ keep → length fs ≤ keep → length (remember keep fs f) ≤ keep
 unfolding remember
@@ -58,27 +39,34 @@ remember-most keep fs f k h = go (ltb (length fs) keep) refl
     go true e = let l : length fs < keep = ltb-true (length fs) keep e in omega (arith, length-append fs (f ∷ []))
     go false e = omega (arith, length-append (drop 1 fs) (f ∷ []), length-drop 1 fs)
 
--- what is remembered of no message of an id, by parts
-remembers-parts : (f : Finished) (fs : Memory) (id : ℕ) → (eqb (f .id) id || remembers fs id) ≡ false → (eqb (f .id) id ≡ false) × (remembers fs id ≡ false)
-remembers-parts f fs id e = go (eqb (f .id) id) refl e
+-- A message that finishes pushes out the first at most: the others stay remembered.
+pub others-stay : (keep : ℕ) (fs : Memory) (f : Finished) (id : ℕ) → remembers (drop 1 fs) id ≡ true → remembers (remember keep fs f) id ≡ true
+unfolding remember remembers
+others-stay keep fs f id e = remembers-more (cond (ltb (length fs) _) fs (drop 1 fs)) f id ∙ rw (go (ltb (length fs) _) fs e) refl
   where
-    go : (b : Bool) → eqb (f .id) id ≡ b → (b || remembers fs id) ≡ false → (eqb (f .id) id ≡ false) × (remembers fs id ≡ false)
-    go true q h = absurd (true≢false h)
-    go false q h = (q, h)
+    go : (b : Bool) (fs : Memory) → remembers (drop 1 fs) id ≡ true → remembers (cond b fs (drop 1 fs)) id ≡ true
+    go false fs e = e
+    go true [] e = e
+    go true (g ∷ fs) e = rw e (or-true (eqb (g .id) id))
+
+-- It is remembered itself.
+pub remember-self : (keep : ℕ) (fs : Memory) (f : Finished) → remembers (remember keep fs f) (f .id) ≡ true
+unfolding remember
+remember-self keep fs f = remembers-more (cond (ltb (length fs) _) fs (drop 1 fs)) f (f .id) ∙ rw (eq-eqb (f .id) (f .id) refl) (or-true (remembers (cond (ltb (length fs) _) fs (drop 1 fs)) (f .id)))
+
+-- what is remembered of no message of an id, by parts
+first-not : (f : Finished) (fs : Memory) (id : ℕ) → remembers (f ∷ fs) id ≡ false → (eqb (f .id) id ≡ false) × (remembers fs id ≡ false)
+unfolding remembers
+first-not f fs id e = or-neither (eqb (f .id) id) (remembers fs id) e
 
 drop-remembers : (fs : Memory) (id : ℕ) → remembers fs id ≡ false → remembers (drop 1 fs) id ≡ false
-unfolding remembers
 drop-remembers [] id e = e
-drop-remembers (f ∷ fs) id e = remembers-parts f fs id e .1
+drop-remembers (f ∷ fs) id e = first-not f fs id e .1
 
 append-remembers : (fs : Memory) (f : Finished) (id : ℕ) → remembers fs id ≡ false → f .id ≢ id → remembers (fs ++ (f ∷ [])) id ≡ false
-unfolding remembers
-append-remembers [] f id e q = rw (ne-eqb (f .id) id q) refl
-append-remembers (g ∷ fs) f id e q =
-    let p : (eqb (g .id) id ≡ false) × (remembers fs id ≡ false) = remembers-parts g fs id e in
-    rw (p .0) (append-remembers fs f id (p .1) q)
+append-remembers fs f id e q = remembers-more fs f id ∙ rw (e, ne-eqb (f .id) id q) refl
 
--- Finishing another message does not make an id remembered;
+-- Finishing another message does not make an id remembered,
 pub remember-other : (keep : ℕ) (fs : Memory) (f : Finished) (id : ℕ) → remembers fs id ≡ false → f .id ≢ id → remembers (remember keep fs f) id ≡ false
 unfolding remember
 remember-other keep fs f id e q = go (ltb (length fs) keep)
@@ -91,14 +79,14 @@ remember-other keep fs f id e q = go (ltb (length fs) keep)
 pub forget-remembers : (second : ℕ) (fs : Memory) (id : ℕ) → remembers fs id ≡ false → remembers (forget second fs) id ≡ false
 unfolding remembers forget
 forget-remembers second [] id e = e
-forget-remembers second (f ∷ fs) id e = go (isDue second f) (remembers-parts f fs id e) (forget-remembers second fs id)
+forget-remembers second (f ∷ fs) id e = go (isDue second f) (first-not f fs id e) (forget-remembers second fs id)
   where
     go : (b : Bool) → (eqb (f .id) id ≡ false) × (remembers fs id ≡ false) → (remembers fs id ≡ false → remembers (forget second fs) id ≡ false)
         → remembers (cond b (forget second fs) (f ∷ forget second fs)) id ≡ false
     go true p ih = ih (p .1)
     go false p ih = rw (p .0) (ih (p .1))
 
--- and a sweep leaves no more.
+-- A sweep leaves no more than were remembered.
 pub forget-most : (second : ℕ) (fs : Memory) → length (forget second fs) ≤ length fs
 unfolding forget
 forget-most second [] = omega arith
@@ -108,22 +96,12 @@ forget-most second (f ∷ fs) = go (isDue second f) (forget-most second fs)
     go true ih = omega arith
     go false ih = omega arith
 
--- A message that finishes is remembered;
-append-self : (fs : Memory) (f : Finished) → remembers (fs ++ (f ∷ [])) (f .id) ≡ true
-unfolding remembers
-append-self [] f = rw (eq-eqb (f .id) (f .id) refl) refl
-append-self (g ∷ fs) f = rw (append-self fs f) (or-true (eqb (g .id) (f .id)))
-
-pub remember-self : (keep : ℕ) (fs : Memory) (f : Finished) → remembers (remember keep fs f) (f .id) ≡ true
-unfolding remember
-remember-self keep fs f = append-self (cond (ltb (length fs) keep) fs (drop 1 fs)) f
-
--- no id is remembered twice;
+-- No id is remembered twice;
 append-distinct : (fs : Memory) (f : Finished) → remembers fs (f .id) ≡ false → Distinct fs → Distinct (fs ++ (f ∷ []))
 unfolding remembers
 append-distinct [] f e d = (refl, tt)
 append-distinct (g ∷ fs) f e d =
-    let p : (eqb (g .id) (f .id) ≡ false) × (remembers fs (f .id) ≡ false) = remembers-parts g fs (f .id) e in
+    let p : (eqb (g .id) (f .id) ≡ false) × (remembers fs (f .id) ≡ false) = first-not g fs (f .id) e in
     (append-remembers fs f (g .id) (d .0) (λ q. eqb-false (g .id) (f .id) (p .0) (sym q)), append-distinct fs f (p .1) (d .1))
 
 pub remember-distinct : (keep : ℕ) (fs : Memory) (f : Finished) → remembers fs (f .id) ≡ false → Distinct fs → Distinct (remember keep fs f)

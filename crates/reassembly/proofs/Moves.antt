@@ -10,7 +10,7 @@ use lib.ListN.{length, getD, set}
 use lib.Dec.{eqb, ltb, leb}
 use borrow.Author.Tests.{eqb-true, ltb-true, leb-true, leb-false}
 use Rattle.reassembly.specs.Memory.{remembers}
-use Rattle.reassembly.specs.Store.{Piece, first, follow, idOf, Message, Slots, SlotsAnswer, findId, findFree, slotOf, messageOr, plus, Store, Answer, badLength, badNumber, repeats, clashes, tooMuch, complete, tooShort, slotsRefuse, answer, slotsStep, refused, settled, step}
+use Rattle.reassembly.specs.Store.{Piece, first, follow, idOf, Message, Slots, SlotsAnswer, findId, findFree, slotOf, messageOr, plus, Store, Answer, badLength, badNumber, repeats, clashes, tooMuch, complete, tooShort, slotsRefuse, answer, slotsStep, refused, answerBySlots, step}
 use Rattle.reassembly.proofs.Series.{free-none}
 use Rattle.reassembly.proofs.Stores.{Hit, hit-later, message-open, message-new, plus-id}
 
@@ -109,14 +109,14 @@ module _ (keep cap : ℕ) (s : Store) (p : Piece) (second : ℕ) where
 
   -- past 50 and 51
   abbrev by-memory : Bool → Answer
-  by-memory b = cond b (refused 57 s) (settled keep s (idOf p) second (slotsStep cap (s .slots) p second))
+  by-memory b = cond b (refused 57 s) (answerBySlots keep s (idOf p) second (slotsStep cap (s .slots) p second))
 
   pub step-57 : badLength p ≡ false → badNumber p ≡ false → remembers (s .remembered) (idOf p) ≡ true → step keep cap s p second ≡ refused 57 s
   unfolding step
   step-57 e f g = rw (e, f) (ap by-memory g)
 
   pub step-slots : badLength p ≡ false → badNumber p ≡ false → remembers (s .remembered) (idOf p) ≡ false
-      → step keep cap s p second ≡ settled keep s (idOf p) second (slotsStep cap (s .slots) p second)
+      → step keep cap s p second ≡ answerBySlots keep s (idOf p) second (slotsStep cap (s .slots) p second)
   unfolding step
   step-slots e f g = rw (e, f) (ap by-memory g)
 
@@ -125,7 +125,7 @@ pub data Stepped (keep cap : ℕ) (s : Store) (p : Piece) (second : ℕ) (a : An
   is-50 : badLength p ≡ true → a ≡ refused 50 s → Stepped keep cap s p second a
   is-51 : badLength p ≡ false → badNumber p ≡ true → a ≡ refused 51 s → Stepped keep cap s p second a
   is-57 : badLength p ≡ false → badNumber p ≡ false → remembers (s .remembered) (idOf p) ≡ true → a ≡ refused 57 s → Stepped keep cap s p second a
-  by-slots : badLength p ≡ false → badNumber p ≡ false → remembers (s .remembered) (idOf p) ≡ false → a ≡ settled keep s (idOf p) second (slotsStep cap (s .slots) p second) → Stepped keep cap s p second a
+  by-slots : badLength p ≡ false → badNumber p ≡ false → remembers (s .remembered) (idOf p) ≡ false → a ≡ answerBySlots keep s (idOf p) second (slotsStep cap (s .slots) p second) → Stepped keep cap s p second a
 
 pub stepped : (keep cap : ℕ) (s : Store) (p : Piece) (second : ℕ) → Stepped keep cap s p second (step keep cap s p second)
 stepped keep cap s p second = go (badLength p) refl (badNumber p) refl (remembers (s .remembered) (idOf p)) refl

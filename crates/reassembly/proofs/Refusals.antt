@@ -18,7 +18,7 @@ use Rattle.reassembly.specs.Memory.{remembers}
 use Rattle.reassembly.specs.Remembered.{memoryOf}
 use Rattle.reassembly.specs.Judge.{misfits, grownBy, isComplete}
 use Rattle.reassembly.specs.Joining.{messageOf, joinsOutside}
-use Rattle.reassembly.specs.Calls.{Lent, After, after, bare, keptRoom, finished, putIn, added, openedIn, openedNow, settledRec, settledIn, takenPiece, lentShort, badSize, offNumber, firstCall, followOnCall}
+use Rattle.reassembly.specs.Calls.{Lent, After, after, bare, keptRoom, finished, putIn, added, openedIn, openedNow, rememberedAfter, withRemembered, takenPiece, lentShort, badSize, offNumber, firstCall, followOnCall}
 use Rattle.reassembly.specs.Careful.{Careful, CarefulFirst, CarefulFollowOn}
 use Rattle.reassembly.proofs.Branches.{good-size}
 
@@ -67,12 +67,12 @@ module _ (x : Lent) where
           own-room = inr (record { slot = firstFrom (isFree (x .rec)) 0 16; place = 0; bytes = v; one-of-16 = leb-false 16 (firstFrom (isFree (x .rec)) 0 16) e; inside = omega arith; put = refl });
         }))
 
-    -- a settled record: with 60 the memory changes, and nothing else
-    careful-settled : (second : ℕ) (y : After) → Careful x y → Careful x (settledIn l second y)
-    unfolding settledRec
-    careful-settled second y c = go (eqb (y .reply .number) 60) refl
+    -- a answerBySlots record: with 60 the memory changes, and nothing else
+    careful-remembered : (second : ℕ) (y : After) → Careful x y → Careful x (withRemembered l second y)
+    unfolding rememberedAfter
+    careful-remembered second y c = go (eqb (y .reply .number) 60) refl
       where
-        go : (b : Bool) → eqb (y .reply .number) 60 ≡ b → Careful x (settledIn l second y)
+        go : (b : Bool) → eqb (y .reply .number) 60 ≡ b → Careful x (withRemembered l second y)
         go true e = record { refusal = inr (inl (eqb-true (y .reply .number) 60 e)); own-room = c .own-room }
         go false e = rw e c
 
@@ -80,7 +80,7 @@ module _ (x : Lent) where
     unfolding takenPiece
     careful-taken second few =
         both (ltb (firstFrom (isOpenAs (x .rec) (l .id)) 0 16) 16) _ _
-        (λ e. careful-settled second (added x (firstFrom (isOpenAs (x .rec) (l .id)) 0 16) l v)
+        (λ e. careful-remembered second (added x (firstFrom (isOpenAs (x .rec) (l .id)) 0 16) l v)
         (careful-added (firstFrom (isOpenAs (x .rec) (l .id)) 0 16) (ltb-true (firstFrom (isOpenAs (x .rec) (l .id)) 0 16) 16 e)))
         (λ e. careful-opened second few)
 

@@ -11,11 +11,11 @@ use Rattle.reassembly.specs.Sizes.{roomSize, mostRemembered, recordSize}
 use Rattle.reassembly.specs.declared.Label.{Label}
 use Rattle.reassembly.specs.declared.Reply.{Reply}
 use Rattle.reassembly.specs.Memory.{Finished, Memory, remembers, remember}
-use Rattle.reassembly.specs.Store.{Piece, first, follow, idOf, pieceBytes, Store, Answer, SlotsAnswer, badLength, badNumber, slotsStep, refused, settled, step, findId}
+use Rattle.reassembly.specs.Store.{Piece, first, follow, idOf, pieceBytes, Store, Answer, SlotsAnswer, badLength, badNumber, slotsStep, refused, answerBySlots, step, findId}
 use Rattle.reassembly.specs.Apart.{Apart}
 use Rattle.reassembly.specs.Slots.{firstFrom, isOpenAs, isFree}
 use Rattle.reassembly.specs.Remembered.{memoryOf, rememberedIn}
-use Rattle.reassembly.specs.Calls.{Lent, lent, After, after, bare, refuses, added, openedIn, openedNow, settledRec, settledIn, takenPiece, lentShort, badSize, offNumber, firstCall, followOnCall}
+use Rattle.reassembly.specs.Calls.{Lent, lent, After, after, bare, refuses, added, openedIn, openedNow, rememberedAfter, withRemembered, takenPiece, lentShort, badSize, offNumber, firstCall, followOnCall}
 use Rattle.reassembly.specs.Stands.{slotsOf, stands, SlotsMade, Made, labelOf, replyFor, laidOut, Agrees}
 use Rattle.reassembly.proofs.Answers.{label-id, number-small, good-length}
 use Rattle.reassembly.proofs.Refines.{SlotsAgree, number-of}
@@ -54,9 +54,9 @@ module _ (rec room out : List ℕ) (x : After) (a : SlotsAnswer) (g : SlotsAgree
   abbrev f : Finished
   f = record { id = l .id; second = second }
 
-  near-settled : Near out (settledIn l second x) (settled mostRemembered (stands rec room) (l .id) second a)
-  unfolding settledRec
-  near-settled = go (eqb (a .number) 60) refl
+  near-remembered : Near out (withRemembered l second x) (answerBySlots mostRemembered (stands rec room) (l .id) second a)
+  unfolding rememberedAfter
+  near-remembered = go (eqb (a .number) 60) refl
     where
       number-is : x .reply .number ≡ a .number
       number-is = ap (λ (r : Reply). r .number) (g .reply) ∙ number-of (a .number) (a .out)
@@ -64,7 +64,7 @@ module _ (rec room out : List ℕ) (x : After) (a : SlotsAnswer) (g : SlotsAgree
       long : recordSize ≤ length (x .left .rec)
       long = g .made .record-long
 
-      go : (b : Bool) → eqb (a .number) 60 ≡ b → Near out (settledIn l second x) (settled mostRemembered (stands rec room) (l .id) second a)
+      go : (b : Bool) → eqb (a .number) 60 ≡ b → Near out (withRemembered l second x) (answerBySlots mostRemembered (stands rec room) (l .id) second a)
       go true e = rw (ap (λ (n : ℕ). eqb n 60) number-is ∙ e, e)
           (record {
             reply = g .reply;
@@ -112,25 +112,25 @@ module _ (rec room out : List ℕ) (made : Made rec room) (p : Piece) (second : 
   as-labelled : (b : Bool) → remembers (memoryOf rec) (l .id) ≡ b → remembers (memoryOf rec) (idOf p) ≡ b
   as-labelled b r = ap (remembers (memoryOf rec)) (sym (label-id p)) ∙ r
 
-  step-settled : remembers (memoryOf rec) (l .id) ≡ false → step mostRemembered (length out) s p second ≡ settled mostRemembered s (l .id) second (slotsStep (length out) (slotsOf rec room) p second)
-  step-settled r =
+  step-labelled : remembers (memoryOf rec) (l .id) ≡ false → step mostRemembered (length out) s p second ≡ answerBySlots mostRemembered s (l .id) second (slotsStep (length out) (slotsOf rec room) p second)
+  step-labelled r =
       step-slots mostRemembered (length out) s p second gl gn (as-labelled false r)
-      ∙ ap (λ (id : ℕ). settled mostRemembered s id second (slotsStep (length out) (slotsOf rec room) p second)) (sym (label-id p))
+      ∙ ap (λ (id : ℕ). answerBySlots mostRemembered s id second (slotsStep (length out) (slotsOf rec room) p second)) (sym (label-id p))
 
   near-added : ltb (firstFrom (isOpenAs rec (l .id)) 0 16) 16 ≡ true
-      → Near out (settledIn l second (added (lent rec room out) (firstFrom (isOpenAs rec (l .id)) 0 16) l v)) (step mostRemembered (length out) s p second)
+      → Near out (withRemembered l second (added (lent rec room out) (firstFrom (isOpenAs rec (l .id)) 0 16) l v)) (step mostRemembered (length out) s p second)
   near-added e =
       let hk : firstFrom (isOpenAs rec (l .id)) 0 16 < 16 = ltb-true (firstFrom (isOpenAs rec (l .id)) 0 16) 16 e in
       let x : After = added (lent rec room out) (firstFrom (isOpenAs rec (l .id)) 0 16) l v in
       let g : SlotsAgree out (added (lent rec room out) (firstFrom (isOpenAs rec (l .id)) 0 16) l v) (slotsStep (length out) (slotsOf rec room) p second) = added-slots rec room out sm p second gl gn fit e in
-      rw (step-settled (open-strange rec room made (l .id) e))
-      (near-settled rec room out (added (lent rec room out) (firstFrom (isOpenAs rec (l .id)) 0 16) l v) (slotsStep (length out) (slotsOf rec room) p second) g
+      rw (step-labelled (open-strange rec room made (l .id) e))
+      (near-remembered rec room out (added (lent rec room out) (firstFrom (isOpenAs rec (l .id)) 0 16) l v) (slotsStep (length out) (slotsOf rec room) p second) g
       (memory-behind rec (added (lent rec room out) (firstFrom (isOpenAs rec (l .id)) 0 16) l v .left .rec) (stays-added (lent rec room out) (sm .record-long) l (number-small p gn) v (firstFrom (isOpenAs rec (l .id)) 0 16) hk))
       l second (fit .id) (fit .second-fits))
 
   -- what opens a message finishes none
-  opens-only : (b : Bool) → leb 16 (firstFrom (isFree rec) 0 16) ≡ b → remembers (memoryOf rec) (l .id) ≡ false → settledIn l second (openedNow (lent rec room out) l second v) ≡ openedNow (lent rec room out) l second v
-  unfolding openedNow openedIn settledRec bare
+  opens-only : (b : Bool) → leb 16 (firstFrom (isFree rec) 0 16) ≡ b → remembers (memoryOf rec) (l .id) ≡ false → withRemembered l second (openedNow (lent rec room out) l second v) ≡ openedNow (lent rec room out) l second v
+  unfolding openedNow openedIn rememberedAfter bare
   opens-only true e r = rw (r, e) refl
   opens-only false e r = rw (r, e) refl
 
@@ -140,9 +140,9 @@ module _ (rec room out : List ℕ) (made : Made rec room) (p : Piece) (second : 
       go : (b : Bool) → remembers (memoryOf rec) (l .id) ≡ b → Near out (openedNow (lent rec room out) l second v) (step mostRemembered (length out) s p second)
       go true r = unfold openedNow in rw (r, step-57 mostRemembered (length out) s p second gl gn (as-labelled true r)) (near-refused rec room out 57 sm)
       go false r =
-          rw (step-settled r)
-          (subst (λ (y : After). Near out y (settled mostRemembered s (l .id) second (slotsStep (length out) (slotsOf rec room) p second))) (opens-only (leb 16 (firstFrom (isFree rec) 0 16)) refl r)
-          (near-settled rec room out (openedNow (lent rec room out) l second v) (slotsStep (length out) (slotsOf rec room) p second) (opened-slots rec room out sm p second gl gn fit e r)
+          rw (step-labelled r)
+          (subst (λ (y : After). Near out y (answerBySlots mostRemembered s (l .id) second (slotsStep (length out) (slotsOf rec room) p second))) (opens-only (leb 16 (firstFrom (isFree rec) 0 16)) refl r)
+          (near-remembered rec room out (openedNow (lent rec room out) l second v) (slotsStep (length out) (slotsOf rec room) p second) (opened-slots rec room out sm p second gl gn fit e r)
           (memory-behind rec (openedNow (lent rec room out) l second v .left .rec) (stays-opened (lent rec room out) (sm .record-long) l (number-small p gn) v second))
           l second (fit .id) (fit .second-fits)))
 

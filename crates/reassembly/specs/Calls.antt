@@ -103,19 +103,19 @@ openedNow x l second v =
     (openedIn x (firstFrom (isFree (x .rec)) 0 16) l second v))
 
 -- the record after a piece that was answered n: with 60 its message is finished, and remembered
-unfoldable pub settledRec : List ℕ → ℕ → Finished → List ℕ
-settledRec rec n f = cond (eqb n 60) (rememberedIn rec f) rec
+unfoldable pub rememberedAfter : List ℕ → ℕ → Finished → List ℕ
+rememberedAfter rec n f = cond (eqb n 60) (rememberedIn rec f) rec
 
--- what a call for a piece of the label's message leaves, its record settled at this second
-abbrev pub settledIn : Label → ℕ → After → After
-settledIn l second y = after (y .reply) (lent (settledRec (y .left .rec) (y .reply .number) (record { id = l .id; second = second })) (y .left .room) (y .left .out))
+-- what a call for a piece of the label's message leaves; where it is finished, it is remembered with this second
+abbrev pub withRemembered : Label → ℕ → After → After
+withRemembered l second y = after (y .reply) (lent (rememberedAfter (y .left .rec) (y .reply .number) (record { id = l .id; second = second })) (y .left .room) (y .left .out))
 
 -- a piece of any message, at a second. An open message is looked for first: on a record that calls made its id is not remembered (specs/Apart.antt),
 -- so 57 comes before 54 there, as the numbers' table has it
 unfoldable pub takenPiece : Lent → Label → ℕ → List ℕ → After
 takenPiece x l second v =
     cond (ltb (firstFrom (isOpenAs (x .rec) (l .id)) 0 16) 16)
-    (settledIn l second (added x (firstFrom (isOpenAs (x .rec) (l .id)) 0 16) l v))
+    (withRemembered l second (added x (firstFrom (isOpenAs (x .rec) (l .id)) 0 16) l v))
     (openedNow x l second v)
 
 -- 59 before all else: the lent record or room is short. (That the record names bytes outside is asked only of pieces that the call reads: docs/DECISIONS.md)

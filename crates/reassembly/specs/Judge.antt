@@ -2,8 +2,9 @@
 use mathlib.Core.Bool.{Bool, true, false, cond, not, _&&_, _||_, Bool·beq}
 use mathlib.Core.List.{List}
 use Prim.Native.Nat.{ℕ, _+_}
-use lib.Dec.{eqb, ltb, leb}
+use lib.Dec.{eqb, ltb}
 use Rattle.wire.specs.Parts.{same}
+use Rattle.reassembly.specs.Ages.{longAgo}
 use Rattle.reassembly.specs.declared.Head.{Head}
 use Rattle.reassembly.specs.declared.Label.{Label}
 
@@ -57,4 +58,4 @@ noHead = record { id = 0; opened = 0; expires = 0; total = 0; count = 0; last = 
 
 -- a slot in use whose message was opened 30 seconds ago or earlier
 unfoldable pub isOld : ℕ → Head → Bool
-isOld second h = not (eqb (h .count) 0) && leb (h .opened + 30) second
+isOld second h = not (eqb (h .count) 0) && longAgo (h .opened) second

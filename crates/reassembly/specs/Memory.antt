@@ -1,9 +1,10 @@
 -- Late repeats (request P5): the finished messages that a store remembers, the first finished first.
 use mathlib.Core.Bool.{Bool, false, cond, _||_}
 use mathlib.Core.List.{List, [], _∷_, _++_}
-use Prim.Native.Nat.{ℕ, _+_}
-use lib.Dec.{ltb, leb, eqb}
+use Prim.Native.Nat.{ℕ}
+use lib.Dec.{ltb, eqb}
 use lib.ListN.{length, drop}
+use Rattle.reassembly.specs.Ages.{longAgo}
 
 -- A finished message: its id, and the second of the piece that finished it.
 pub record Finished : Type 0 where
@@ -25,7 +26,7 @@ remember keep fs f = cond (ltb (length fs) keep) fs (drop 1 fs) ++ (f ∷ [])
 
 -- A finished message is due at a second that is at least 30 above its finishing second.
 unfoldable pub isDue : ℕ → Finished → Bool
-isDue second f = leb (f .second + 30) second
+isDue second f = longAgo (f .second) second
 
 -- A sweep forgets those that are due.
 unfoldable pub forget : ℕ → Memory → Memory

@@ -7,6 +7,7 @@ use lib.ListN.{length, getD, take, drop, set, replicate}
 use lib.Dec.{ltb, leb, eqb}
 use Rattle.wire.specs.Parts.{same}
 use Rattle.reassembly.specs.Sizes.{messageSize, mostRemembered}
+use Rattle.reassembly.specs.Ages.{longAgo}
 use Rattle.reassembly.specs.Memory.{Memory, remembers, remember, forget}
 
 -- A piece: a first fragment (number 0, with the message's head) or a follow-on fragment (a number, and whether it is the last).
@@ -198,8 +199,8 @@ abbrev pub refused : ℕ → Store → Answer
 refused n s = record { number = n; out = none; store = s }
 
 -- The store with what the slots answer to a piece of the message `id`: with 60 the message is finished, and remembered with this second.
-abbrev pub settled : ℕ → Store → ℕ → ℕ → SlotsAnswer → Answer
-settled keep s id second a =
+abbrev pub answerBySlots : ℕ → Store → ℕ → ℕ → SlotsAnswer → Answer
+answerBySlots keep s id second a =
     record {
       number = a .number;
       out = a .out;
@@ -212,12 +213,12 @@ step keep cap s p second =
     cond (badLength p) (refused 50 s)
     (cond (badNumber p) (refused 51 s)
     (cond (remembers (s .remembered) (idOf p)) (refused 57 s)
-    (settled keep s (idOf p) second (slotsStep cap (s .slots) p second))))
+    (answerBySlots keep s (idOf p) second (slotsStep cap (s .slots) p second))))
 
 -- A sweep at a second frees a slot where that second is at least 30 above the one of the piece that opened the message.
 unfoldable pub sweptOne : ℕ → Option Message → Option Message
 sweptOne second none = none
-sweptOne second (some m) = cond (leb (m .opened + 30) second) none (some m)
+sweptOne second (some m) = cond (longAgo (m .opened) second) none (some m)
 
 -- It drops exactly those messages,
 unfoldable pub slotsSweep : ℕ → Slots → Slots

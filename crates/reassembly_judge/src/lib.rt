@@ -5,6 +5,7 @@ use wire::usize_from_u8;
 ghost use mathlib.Core.Path.{_≡_};
 ghost use Prim.Native.Nat.{_+_, _<_, _≤_};
 ghost use Rattle.reassembly.specs.Sizes.{messageSize};
+ghost use Rattle.reassembly.specs.Ages.{longAgo};
 ghost use Rattle.reassembly.specs.Judge.{pick, sameLabel, again, misfits, moreOf, grownBy, isComplete, newHead, noHead, isOld};
 
 fn pick8(c: bool, a: u8, b: u8) -> u8
@@ -118,12 +119,19 @@ pub fn no_head() -> Head
     }
 }
 
-// A slot whose message was opened 30 seconds ago or earlier.
-pub fn is_old(h: Head, second: u64) -> bool
-    ensures { λ r. ⌜ r ≡ isOld second h ⌝ }
+// The present second is at least 30 above another; by a difference, for a sum might wrap.
+pub fn long_ago(at: u64, second: u64) -> bool
+    ensures { λ r. ⌜ r ≡ longAgo at second ⌝ }
 {
     if second < 30 {
         return false;
     }
-    (h.count != 0) & (h.opened <= second - 30)
+    at <= second - 30
+}
+
+// A slot whose message was opened 30 seconds ago or earlier.
+pub fn is_old(h: Head, second: u64) -> bool
+    ensures { λ r. ⌜ r ≡ isOld second h ⌝ }
+{
+    (h.count != 0) & long_ago(h.opened, second)
 }

@@ -5,13 +5,14 @@ use mathlib.Core.List.{List}
 use Prim.Native.Nat.{ℕ, _+_, _-_, _*_, _≤_, _<_}
 use native.Mathlib.Omega.{arith}
 use native.Mathlib.Numerals.{add-one}
-use lib.Dec.{eqb, leb}
+use lib.Dec.{eqb}
 use lib.ListN.{length, getD}
-use borrow.Author.Tests.{lt-ltb, le-ltb, le-leb, lt-leb, leb-true, leb-false}
+use borrow.Author.Tests.{lt-ltb, le-ltb}
 use Rattle.wire.specs.Parts.{part, splice}
 use Rattle.wire.proofs.Parts.{length-part, part-after}
 use Rattle.reassembly.specs.Sizes.{mostRemembered, idsAt, idSize, secondsAt, secondSize, countAt, recordSize}
 use Rattle.reassembly.specs.Series.{series}
+use Rattle.reassembly.specs.Ages.{longAgo}
 use Rattle.reassembly.specs.Memory.{remembers, isDue}
 use Rattle.reassembly.specs.Remembered.{rememberedCount, finishedAt, memoryOf, withCount, withFinished, movedTo, rememberedIn, Sifted, sifted, siftedOne, siftedTo, forgottenIn}
 use Rattle.reassembly.proofs.Series.{series-more}
@@ -61,10 +62,10 @@ module _ (rec : List ℕ) where
   pushed-out n id second down put saved e h m p s = rw (le-ltb (rememberedCount rec) mostRemembered (omega arith)) (cc)
 
   -- the k-th is due, or it is not
-  module _ (second kept k s : ℕ) (due : Bool) (es : s ≡ finishedAt rec k .second) (ed : due ≡ leb (s + 30) second) where
+  module _ (second kept k s : ℕ) (due : Bool) (es : s ≡ finishedAt rec k .second) (ed : due ≡ longAgo s second) where
     is-due : isDue second (finishedAt rec k) ≡ due
     unfolding isDue
-    is-due = sym (ed ∙ ap (λ (z : ℕ). leb (z + 30) second) es)
+    is-due = sym (ed ∙ ap (λ (z : ℕ). longAgo z second) es)
 
     pub passed-by : due ≡ true → sifted rec kept ≡ siftedOne second k (sifted rec kept)
     unfolding siftedOne
@@ -82,14 +83,3 @@ module _ (rec : List ℕ) where
   unfolding forgottenIn
   sifted-end second k kept x saved e h s =
       s ∙ ap (λ (z : Sifted). withCount (z .rec) (z .count)) (e ∙ ap (siftedTo second rec) h)
-
--- a finishing second is compared without a sum
-pub due-early : (finished second : ℕ) → second < 30 → false ≡ leb (finished + 30) second
-due-early finished second h = sym (lt-leb (finished + 30) second (omega arith))
-
-pub due-late : (finished second : ℕ) → 30 ≤ second → leb finished (second - 30) ≡ leb (finished + 30) second
-due-late finished second h = go (leb finished (second - 30)) refl
-  where
-    go : (b : Bool) → leb finished (second - 30) ≡ b → leb finished (second - 30) ≡ leb (finished + 30) second
-    go true q = let l : finished ≤ second - 30 = leb-true finished (second - 30) q in q ∙ sym (le-leb (finished + 30) second (omega arith))
-    go false q = let l : second - 30 < finished = leb-false finished (second - 30) q in q ∙ sym (lt-leb (finished + 30) second (omega arith))

@@ -7,7 +7,6 @@ use reassembly::SECOND_SIZE;
 use reassembly::SECONDS_AT;
 ghost use mathlib.Core.Path.{_≡_};
 ghost use Prim.Native.Nat.{_+_, _<_, _≤_};
-ghost use lib.Dec.{leb};
 ghost use lib.ListN.{length};
 ghost use Rattle.reassembly.specs.Sizes.{mostRemembered, recordSize};
 ghost use Rattle.reassembly.specs.Memory.{remembers};
@@ -100,22 +99,12 @@ pub fn remember(rec: &mut [u8], id: u32, second: u64)
     save_count(rec, MOST_REMEMBERED);
 }
 
-// The present second is at least 30 above a finishing second.
-fn is_due(finished: u64, second: u64) -> bool
-    ensures { λ r. ⌜ r ≡ leb (finished + 30) second ⌝ }
-{
-    if second < 30 {
-        return false;
-    }
-    finished <= second - 30
-}
-
 // The k-th, where it is due, is passed by; else it moves down behind those that are kept. How many are kept then.
 fn sift_one(rec: &mut [u8], kept: usize, k: usize, second: u64) -> usize
     requires { ⌜ (recordSize ≤ length (now rec)) × (kept ≤ k) × (k < mostRemembered) ⌝ }
     ensures { λ r. ⌜ (sifted (now (rec .exit)) r ≡ siftedOne second k (sifted (now (rec .entry)) kept)) × (r ≤ k + 1) ⌝ }
 {
-    if is_due(second_at(rec, k), second) {
+    if reassembly_judge::long_ago(second_at(rec, k), second) {
         return kept;
     }
     move_to(rec, kept, k, 1);

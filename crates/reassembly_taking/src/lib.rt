@@ -13,7 +13,7 @@ ghost use mathlib.Core.List.{List};
 ghost use Prim.Native.Nat.{ℕ, _+_, _<_, _≤_};
 ghost use lib.ListN.{length};
 ghost use Rattle.reassembly.specs.Sizes.{slotSize, roomSize, recordSize};
-ghost use Rattle.reassembly.specs.Calls.{lent, after, bare, keptRec, keptRoom, finished, putIn, compared, added, openedIn, openedNow, settledRec, takenPiece};
+ghost use Rattle.reassembly.specs.Calls.{lent, after, bare, keptRec, keptRoom, finished, putIn, compared, added, openedIn, openedNow, rememberedAfter, takenPiece};
 
 pub fn bare(n: u8) -> Reply
     ensures { λ r. ⌜ r ≡ bare n ⌝ }
@@ -161,9 +161,9 @@ fn open(rec: &mut [u8], room: &mut [u8], l: Label, second: u64, bytes: &[u8]) ->
 }
 
 // A piece was answered n: with 60 its message is finished, and remembered with this second.
-fn settle(rec: &mut [u8], n: u8, id: u32, second: u64)
+fn remember_finished(rec: &mut [u8], n: u8, id: u32, second: u64)
     requires { ⌜ recordSize ≤ length (now rec) ⌝ }
-    ensures { λ _. ⌜ now (rec .exit) ≡ settledRec (now (rec .entry)) n (record { id = id; second = second }) ⌝ }
+    ensures { λ _. ⌜ now (rec .exit) ≡ rememberedAfter (now (rec .entry)) n (record { id = id; second = second }) ⌝ }
 {
     if n == 60 {
         reassembly_memory::remember(rec, id, second);
@@ -186,7 +186,7 @@ pub fn take(
     let i = reassembly_slots::find(rec, l.id);
     if i < 16 {
         let r = add(rec, room, out, i, l, bytes);
-        settle(rec, r.number, l.id, second);
+        remember_finished(rec, r.number, l.id, second);
         return r;
     }
     open(rec, room, l, second, bytes)

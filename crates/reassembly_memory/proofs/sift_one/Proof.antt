@@ -6,8 +6,8 @@ use Rattle.reassembly_memory.proofs.sift_one.Tie as tie
 second-at-requires : tie.Need-second-at-requires
 second-at-requires c κs = search needs
 
-is-due-requires : tie.Need-is-due-requires
-is-due-requires c κs = search needs
+long-ago-requires : tie.Need-long-ago-requires
+long-ago-requires c κs = search needs
 
 same-length : tie.Need-same-length
 same-length c = search needs
@@ -16,7 +16,7 @@ returns : tie.Need-returns
 returns c =
     let a = c .before .before .before .before .before .args in
     let s = c .before .before .second-at in
-    let due = c .before .is-due in
+    let due = c .before .long-ago in
     (passed-by (a .rec .now) (a .second) (a .kept) (a .k) (s .result) (due .result) (s .ensures) (due .ensures) (c .if1 .taken), search needs)
 
 move-to-requires : tie.Need-move-to-requires
@@ -32,7 +32,7 @@ returns-2 : tie.Need-returns-2
 returns-2 c =
     let a = c .before .before .before .before .before .before .before .before .before .args in
     let s = c .before .before .before .before .before .before .second-at in
-    let due = c .before .before .before .before .before .is-due in
+    let due = c .before .before .before .before .before .long-ago in
     (kept-one (a .rec .now) (a .second) (a .kept) (a .k) (s .result) (due .result) (s .ensures) (due .ensures) (c .before .before .move-to .last .0) (c .before .before .before .before .if1 .left) (c .before .before .move-to .ensures), search needs)
 
 pub sift-one-spec : {M : Type 1} → statement M
@@ -40,7 +40,7 @@ sift-one-spec =
     tie.close
     (tie.spec
     second-at-requires
-    is-due-requires
+    long-ago-requires
     same-length
     returns
     move-to-requires

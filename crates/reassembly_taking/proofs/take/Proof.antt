@@ -10,8 +10,8 @@ find-requires c κs = search needs
 add-requires : tie.Need-add-requires
 add-requires c κs = search needs
 
-settle-requires : tie.Need-settle-requires
-settle-requires c κs = search needs
+remember-finished-requires : tie.Need-remember-finished-requires
+remember-finished-requires c κs = search needs
 
 same-length : tie.Need-same-length
 same-length c = search needs
@@ -25,7 +25,7 @@ same-length-3 c = search needs
 returns : tie.Need-returns
 returns c =
     let a = c .before .before .before .before .before .before .before .before .before .before .before .before .before .before .before .before .before .before .before .before .before .args in
-    taken-added (a .rec .now) (a .room .now) (a .out .now) (a .l) (a .second) (a .bytes .now) (after (c .before .before .before .before .before .before .before .before .before .before .add .result) (lent (c .before .before .before .before .before .before .before .before .before .before .add .last .0) (c .before .before .before .before .before .before .before .before .before .before .add .last .1 .0) (c .before .before .before .before .before .before .before .before .before .before .add .last .1 .1 .0))) (c .before .before .settle .last .0) (c .before .before .before .before .before .before .before .before .before .before .before .before .before .before .before .find .result) (c .before .before .before .before .before .before .before .before .before .before .before .before .before .before .before .find .ensures) (search needs) (c .before .before .before .before .before .before .before .before .before .before .add .ensures) (c .before .before .settle .ensures)
+    taken-added (a .rec .now) (a .room .now) (a .out .now) (a .l) (a .second) (a .bytes .now) (after (c .before .before .before .before .before .before .before .before .before .before .add .result) (lent (c .before .before .before .before .before .before .before .before .before .before .add .last .0) (c .before .before .before .before .before .before .before .before .before .before .add .last .1 .0) (c .before .before .before .before .before .before .before .before .before .before .add .last .1 .1 .0))) (c .before .before .remember-finished .last .0) (c .before .before .before .before .before .before .before .before .before .before .before .before .before .before .before .find .result) (c .before .before .before .before .before .before .before .before .before .before .before .before .before .before .before .find .ensures) (search needs) (c .before .before .before .before .before .before .before .before .before .before .add .ensures) (c .before .before .remember-finished .ensures)
 
 open-requires : tie.Need-open-requires
 open-requires c κs = search needs
@@ -47,7 +47,7 @@ take-spec =
     (tie.spec
     find-requires
     add-requires
-    settle-requires
+    remember-finished-requires
     same-length
     same-length-2
     same-length-3
