@@ -1,4 +1,4 @@
-/* Strawhub: SSU2 headers, blocks, acknowledgements and reassembly, proved. Link libstrawhub.a.
+/* Strawhub: SSU2 headers, blocks, acknowledgements, packets sent and reassembly, proved. Link libstrawhub.a.
  *
  * Every call takes any bytes and any lengths, ends, and allocates nothing. A slice is a pointer and a
  * count; with a count of 0 the pointer may be anything. An array is as long as it is declared. What a
@@ -20,11 +20,15 @@
 extern "C" {
 #endif
 
-/* Bytes that a tracker takes, a store's record, its room, and a finished message at most. */
+/* Bytes that a tracker takes, a sender, a store's record, its room, and a finished message at most. */
 #define STRAWHUB_TRACKER 259
+#define STRAWHUB_SENDER 4104
 #define STRAWHUB_RECORD 9345
 #define STRAWHUB_ROOM 1048560
 #define STRAWHUB_MESSAGE 65535
+
+/* Packets that a sender has outstanding at most. */
+#define STRAWHUB_OUTSTANDING 256
 
 enum strawhub_number {
 	STRAWHUB_DONE = 0,
@@ -62,10 +66,15 @@ enum strawhub_number {
 	STRAWHUB_BUFFER_SHORT = 56,          /* would complete, assembly buffer too short */
 	STRAWHUB_ALREADY_FINISHED = 57,      /* piece of a finished message whose id is remembered */
 	STRAWHUB_LENT_SHORT = 59,            /* lent room or record short, or the record names bytes outside it */
-	STRAWHUB_FINISHED = 60               /* a message is finished */
+	STRAWHUB_FINISHED = 60,              /* a message is finished */
+	STRAWHUB_SENDER_FULL = 70,           /* 256 packets are outstanding */
+	STRAWHUB_NUMBERS_USED_UP = 71,       /* 4,294,967,295 was given out */
+	STRAWHUB_NEVER_GIVEN_OUT = 72,       /* an Ack block names a number that was never given out */
+	STRAWHUB_NOT_OUTSTANDING = 73        /* resend of a number that is not outstanding */
 };
 
-/* 0 and a length, a count or a place; or a refusal and, for blocks that are read or delivered, the block's place. */
+/* 0 and a length, a count, a place or a packet number; or a refusal and, for blocks that are read or
+ * delivered, the block's place. */
 struct strawhub_outcome {
 	uint64_t number;
 	uint64_t value;
@@ -160,6 +169,60 @@ struct strawhub_outcome strawhub_tracker_ack_block(const uint8_t *tracker, size_
  * their count; or 44, 46. */
 struct strawhub_expanded strawhub_ack_expand(uint32_t through, uint8_t count, const uint8_t *pairs, size_t pairs_len,
                                              uint32_t *list, size_t list_len);
+
+/* ---- The sender: the packets that this end sent, and those that the far end has not acknowledged yet.
+ *
+ * Packet numbers are given out in order, from 1, and never twice; 4,294,967,295 is the last. 0, the
+ * SessionConfirmed, counts as given out and settled from the start. A number that was given out is
+ * outstanding until an Ack block names it, and then it is settled; or until its packet is sent again, which
+ * gives the old number up and gives out a new one. A number that was given up is never settled, also where
+ * an Ack block names it later. There is no other way out of the list: nothing expires, nothing is cancelled.
+ *
+ * Where the far tracker registers only numbers of this sender, and every Ack block that is fed in is a
+ * report of that tracker, a number above 0 is settled only if that tracker had registered it; packets and
+ * Ack blocks may be lost, repeated and reordered.
+ *
+ * Progress is not promised. The far tracker refuses by 40 every number more than 255 above the highest that
+ * it registered, and a resend takes a higher number: if the first 255 numbers are lost, it refuses all later
+ * ones, for ever. A daemon that keeps two rules never gets there; the calls do not test them.
+ *  1. Keep the span from the lowest outstanding number to the highest given out below 255: then each
+ *     outstanding number is still in the far end's window, and can be registered and reported. Send the
+ *     oldest packet again before the span grows to 255.
+ *  2. Give out no number, by a send or a resend, that is more than 255 above the highest settled one (0 at
+ *     the start): then the far end cannot answer 40. Numbers given up count here too: one packet that was
+ *     sent and resent 255 times, all lost, ends up as number 256, the only one outstanding, and 256 is
+ *     refused. If none of those 255 arrives, the connection is lost: close it when no Ack block settles one.
+ * The highest number given out is the one that the last send or resend answered, the lowest outstanding one
+ * is that of packet 0 of strawhub_sender_outstanding, and strawhub_sender_ack gives the settled ones. */
+
+/* A sender that has given out nothing, in the first 4,104 bytes. 4,104 zeros are one too. 0, or 59 where
+ * there are fewer bytes. */
+uint32_t strawhub_sender_new(uint8_t *sender, size_t sender_len);
+
+/* A packet is sent, at a second: 0 and its number, which is then outstanding, with no resends; or the first
+ * that holds of 59, 71, 70. */
+struct strawhub_outcome strawhub_sender_send(uint8_t *sender, size_t sender_len, uint64_t second);
+
+/* The packet of an outstanding number is sent again, at a second: 0 and its new number. The old number is
+ * given up; the new one is outstanding, with this second and one resend more. Or the first that holds of 59,
+ * 73, 71; it is never 70, for one leaves the list and one comes. */
+struct strawhub_outcome strawhub_sender_resend(uint8_t *sender, size_t sender_len, uint32_t number, uint64_t second);
+
+/* An Ack block came, from a payload that was authenticated: its through, its count and its pairs as
+ * strawhub_block_read gives them; an odd last byte of the pairs is passed over. It settles those outstanding
+ * packets that it names: 0 and how many they are, their numbers at the start of settled, the oldest first,
+ * and the rest of settled stays. It may settle none, as an Ack block does that comes again, or that names 0
+ * and numbers given up alone. Or the first that holds of 59, 44, 72, and then nothing is settled: 72 is given
+ * where through is above the highest number given out. */
+struct strawhub_outcome strawhub_sender_ack(uint8_t *sender, size_t sender_len, uint32_t through, uint8_t count,
+                                            const uint8_t *pairs, size_t pairs_len,
+                                            uint32_t settled[STRAWHUB_OUTSTANDING]);
+
+/* The k-th outstanding packet, from 0, the oldest first: its number, the second at which it was sent under
+ * that number and how often it was resent, in out, which stays where k is not below their count. 0 and that
+ * count, or 59. Their numbers rise. Asking changes nothing. */
+struct strawhub_outcome strawhub_sender_outstanding(const uint8_t *sender, size_t sender_len, size_t k,
+                                                    uint64_t out[3]);
 
 /* An empty store, in the first 9,345 bytes: no message is open, and no finished one is remembered. 9,345
  * zeros are an empty store too. 0, or 59 where there are fewer bytes. */

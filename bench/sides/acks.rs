@@ -6,7 +6,7 @@ use std::hint::black_box;
 const CALLS: u32 = 1_000;
 
 fn row(name: &str, rust: impl FnMut() + 'static, ours: impl FnMut() + 'static) -> Row {
-    Row { name: name.to_string(), rust: Box::new(rust), ours: Box::new(ours), copy: None, operations: CALLS as usize }
+    Row { name: name.to_string(), rust: Box::new(rust), ours: Box::new(ours), ready: None, copy: None, operations: CALLS as usize }
 }
 
 /// Registers numbers a step apart, from a new state in each round.

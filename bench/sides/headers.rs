@@ -43,6 +43,7 @@ fn row(name: &str, kind: u8, len: usize) -> Row {
         name: format!("{name} header of {len} bytes read"),
         rust: reads(&packet, rust),
         ours: reads(&packet, ours),
+        ready: None,
         copy: Some(reads(&packet, |_| ())),
         operations: READS,
     }

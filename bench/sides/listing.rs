@@ -25,6 +25,7 @@ pub fn rows() -> Vec<Row> {
                 black_box(block_list(black_box(p), &mut list));
             }
         }),
+        ready: None,
         copy: Some(Box::new(move || {
             for p in &c {
                 copied[..p.len()].copy_from_slice(black_box(p));

@@ -1,21 +1,27 @@
-//! The library beside the original Rust, on the same inputs in one run: `sides time [COUNTS]` prints the table, `sides count`
-//! runs each operation a few times between marks, for a tool that counts instructions.
+//! The library beside the original Rust, and the sender's list beside a `BTreeMap`, on the same inputs in one run: `sides time [COUNTS]`
+//! prints the tables, `sides count` runs each operation a few times between marks, for a tool that counts instructions. `sides sender`
+//! is the sender's table alone. bench/run builds it and runs it.
 mod acks;
 mod headers;
 mod listing;
 mod reassembly;
+mod sender;
 mod table;
 
 use oracle::crypto::chachapoly::PLAIN;
 use std::{hint::black_box, sync::atomic::Ordering, time::Instant};
 
+pub type Work = Box<dyn FnMut()>;
+
 /// One operation: what each side does in a round, and how many operations that is.
 pub struct Row {
     pub name: String,
-    pub rust: Box<dyn FnMut()>,
-    pub ours: Box<dyn FnMut()>,
+    pub rust: Work,
+    pub ours: Work,
+    /// What makes each side ready for its round, outside its time.
+    pub ready: Option<(Work, Work)>,
     /// The same bytes copied, where the operation handles bytes.
-    pub copy: Option<Box<dyn FnMut()>>,
+    pub copy: Option<Work>,
     pub operations: usize,
 }
 
@@ -34,31 +40,56 @@ fn time(f: &mut dyn FnMut(), operations: usize) -> f64 {
     start.elapsed().as_nanos() as f64 / operations as f64
 }
 
+impl Row {
+    fn rust_ready(&mut self) -> &mut Work {
+        self.ready.iter_mut().for_each(|(ready, _)| ready());
+        &mut self.rust
+    }
+
+    fn ours_ready(&mut self) -> &mut Work {
+        self.ready.iter_mut().for_each(|(_, ready)| ready());
+        &mut self.ours
+    }
+}
+
 /// Rounds in turn, now one side first and now the other.
 fn measure(row: &mut Row, rounds: usize) -> table::Times {
     let mut times = table::Times::default();
+    let sides: [fn(&mut Row) -> &mut Work; 2] = [Row::rust_ready, Row::ours_ready];
     for round in 0..rounds {
-        let (first, second) = if round % 2 == 0 { (&mut row.rust, &mut row.ours) } else { (&mut row.ours, &mut row.rust) };
-        let (a, b) = (time(first, row.operations), time(second, row.operations));
-        let (rust, ours) = if round % 2 == 0 { (a, b) } else { (b, a) };
+        let mut taken = [0.0; 2];
+        for side in [round % 2, 1 - round % 2] {
+            let operations = row.operations;
+            taken[side] = time(sides[side](row), operations);
+        }
         let copy = row.copy.as_mut().map(|f| time(f, row.operations));
-        times.push(rust, ours, copy);
+        times.push(taken[0], taken[1], copy);
     }
     times
 }
 
-fn timed(counts: Option<String>) {
-    let rounds = 301;
-    println!("sides: {rounds} rounds in turn of each operation, load {}", table::load());
-    let counts = table::counts(counts);
-    let mut rows = rows();
+/// The rows' names with their times.
+fn measured(mut rows: Vec<Row>) -> Vec<(String, table::Times)> {
     let all = rows.iter_mut().map(|row| {
         eprintln!("sides: {}", row.name);
-        let times = measure(row, rounds);
+        let times = measure(row, ROUNDS);
         (row.name.clone(), times)
     });
-    let all: Vec<_> = all.collect();
-    table::print(&all, &counts);
+    all.collect()
+}
+
+const ROUNDS: usize = 301;
+
+fn sent(counts: &table::Counts) {
+    table::print("A BTreeMap", &measured(sender::rows()), counts);
+    sender::growth(ROUNDS);
+}
+
+fn timed(counts: Option<String>) {
+    println!("sides: {ROUNDS} rounds in turn of each operation, load {}", table::load());
+    let counts = table::counts(counts);
+    table::print("The Rust", &measured(rows()), &counts);
+    sent(&counts);
     println!("sides: done, load {}", table::load());
 }
 
@@ -77,9 +108,11 @@ pub extern "C" fn count_end() {
 
 /// Between each pair of marks one round of one side; the lines say which, in order, and how many operations it was.
 fn counted() {
-    for mut row in rows() {
-        for (side, f) in [("rust", &mut row.rust), ("ours", &mut row.ours)] {
-            f();
+    for mut row in rows().into_iter().chain(sender::rows()) {
+        let sides: [(&str, fn(&mut Row) -> &mut Work); 2] = [("rust", Row::rust_ready), ("ours", Row::ours_ready)];
+        for (side, ready) in sides {
+            ready(&mut row)();
+            let f = ready(&mut row);
             count_begin();
             f();
             count_end();
@@ -94,8 +127,9 @@ fn main() {
     match words.next().as_deref() {
         Some("time") => timed(words.next()),
         Some("count") => counted(),
+        Some("sender") => sent(&table::counts(words.next())),
         _ => {
-            eprintln!("sides: time [COUNTS] | count");
+            eprintln!("sides: time [COUNTS] | count | sender [COUNTS]");
             std::process::exit(2)
         }
     }

@@ -90,6 +90,7 @@ fn row(name: String, lengths: &[usize], order: Order, open: u32) -> Row {
             }
             assert_eq!(finished, done);
         }),
+        ready: None,
         copy: Some(Box::new(move || {
             for p in (0..times).flat_map(|_| c.iter()) {
                 buffer[p.place..p.place + p.bytes.len()].copy_from_slice(black_box(&p.bytes));

@@ -19,7 +19,7 @@ impl Times {
 }
 
 /// The lower quartile, the median and the upper quartile.
-fn quartiles(values: &[f64]) -> [f64; 3] {
+pub fn quartiles(values: &[f64]) -> [f64; 3] {
     let mut v = values.to_vec();
     v.sort_by(f64::total_cmp);
     [v[v.len() / 4], v[v.len() / 2], v[v.len() * 3 / 4]]
@@ -30,8 +30,10 @@ pub fn load() -> String {
     text.split(' ').next().unwrap_or("unknown").to_string()
 }
 
+pub type Counts = HashMap<(String, String), f64>;
+
 /// Instructions an operation by row and side, from lines of name, side, operations and instructions.
-pub fn counts(file: Option<String>) -> HashMap<(String, String), f64> {
+pub fn counts(file: Option<String>) -> Counts {
     let text = file.map(|f| fs::read_to_string(&f).unwrap_or_else(|e| panic!("{f}: {e}"))).unwrap_or_default();
     let line = |l: &str| {
         let w: Vec<&str> = l.split('\t').collect();
@@ -41,8 +43,13 @@ pub fn counts(file: Option<String>) -> HashMap<(String, String), f64> {
     text.lines().filter_map(line).collect()
 }
 
-pub fn print(all: &[(String, Times)], counts: &HashMap<(String, String), f64>) {
-    println!("\n| Operation | The Rust, ns | Here, ns | Ratio (quartiles) | The bytes copied, ns | Instructions: the Rust | here | Ratio |");
+fn lower(name: &str) -> String {
+    name[..1].to_lowercase() + &name[1..]
+}
+
+/// The table beside another side, by its name.
+pub fn print(beside: &str, all: &[(String, Times)], counts: &Counts) {
+    println!("\n| Operation | {beside}, ns | Here, ns | Ratio (quartiles) | The bytes copied, ns | Instructions: {} | here | Ratio |", lower(beside));
     println!("|---|---|---|---|---|---|---|---|");
     for (name, t) in all {
         let [low, middle, high] = quartiles(&t.ratios);

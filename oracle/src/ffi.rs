@@ -1,17 +1,19 @@
-//! The proved library's C calls: the Rust crate's own declarations of them, and a tracker and a store that keep their bytes.
+//! The proved library's C calls: the Rust crate's own declarations of them, and a tracker, a sender and a store that keep their bytes.
 
 #[path = "../../rust/src/ffi.rs"]
 mod calls;
 pub use calls::{ack_expand, block_list, block_read, block_write, header_read, header_write, Entry, Expanded, Fields, Outcome, Reply};
 
 pub const TRACKER: usize = 259;
+pub const SENDER: usize = 4104;
 pub const RECORD: usize = 9345;
 pub const ROOM: usize = 1_048_560;
 pub const MESSAGE: usize = 65_535;
 
-// the Rust crate's tracker begins as zeros and needs no call
+// the Rust crate's tracker and sender begin as zeros and need no call
 extern "C" {
     fn strawhub_tracker_new(tracker: *mut u8, len: usize) -> u32;
+    fn strawhub_sender_new(sender: *mut u8, len: usize) -> u32;
 }
 
 /// A tracker in the bytes that a caller keeps.
@@ -38,6 +40,39 @@ impl Tracker {
 
     pub fn ack_block(&self, room: &mut [u8]) -> Outcome {
         calls::tracker_ack_block(&self.0, room)
+    }
+}
+
+/// A sender in the bytes that a caller keeps. The original has none: bench/sides times this one.
+#[derive(Clone)]
+pub struct Sender(pub [u8; SENDER]);
+
+impl Sender {
+    pub fn new() -> Self {
+        let mut bytes = [0xff; SENDER];
+        assert_eq!(unsafe { strawhub_sender_new(bytes.as_mut_ptr(), SENDER) }, 0);
+        Self(bytes)
+    }
+
+    pub fn send(&mut self, second: u64) -> Outcome {
+        calls::sender_send(&mut self.0, second)
+    }
+
+    pub fn resend(&mut self, number: u32, second: u64) -> Outcome {
+        calls::sender_resend(&mut self.0, number, second)
+    }
+
+    pub fn ack(&mut self, through: u32, count: u8, pairs: &[u8], settled: &mut [u32; 256]) -> Outcome {
+        calls::sender_ack(&mut self.0, through, count, pairs, settled)
+    }
+
+    /// The outstanding packets, the oldest first: number, second, resends.
+    pub fn outstanding(&self) -> impl Iterator<Item = (u32, u64, u32)> + '_ {
+        (0..calls::sender_outstanding(&self.0, 0, &mut [0; 3]).value as usize).map(|k| {
+            let mut out = [0; 3];
+            calls::sender_outstanding(&self.0, k, &mut out);
+            (out[0] as u32, out[1], out[2] as u32)
+        })
     }
 }
 

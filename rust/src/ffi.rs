@@ -1,5 +1,5 @@
-//! The calls as include/strawhub.h declares them, and a safe function over each. `strawhub_tracker_new`
-//! is not among them: 259 zeros are a new tracker.
+//! The calls as include/strawhub.h declares them, and a safe function over each. `strawhub_tracker_new` and
+//! `strawhub_sender_new` are not among them: 259 zeros are a new tracker, 4,104 a new sender.
 //!
 //! This is the only module with unsafe code. Each function hands the library slices, as a pointer and a
 //! count, and arrays of the declared length, as a pointer. They are borrowed for the call, mutably where
@@ -20,7 +20,7 @@ pub struct Entry {
     pub size: u16,
 }
 
-/// 0 and a length, a count or a place; or a refusal and its place.
+/// 0 and a length, a count, a place or a packet number; or a refusal and its place.
 #[derive(Debug, Clone, Copy, PartialEq, Eq)]
 #[repr(C)]
 pub struct Outcome {
@@ -138,6 +138,22 @@ mod c {
             list: *mut u32,
             list_len: usize,
         ) -> Expanded;
+
+        pub fn strawhub_sender_send(sender: *mut u8, sender_len: usize, second: u64) -> Outcome;
+
+        pub fn strawhub_sender_resend(sender: *mut u8, sender_len: usize, number: u32, second: u64) -> Outcome;
+
+        pub fn strawhub_sender_ack(
+            sender: *mut u8,
+            sender_len: usize,
+            through: u32,
+            count: u8,
+            pairs: *const u8,
+            pairs_len: usize,
+            settled: *mut u32,
+        ) -> Outcome;
+
+        pub fn strawhub_sender_outstanding(sender: *const u8, sender_len: usize, k: usize, out: *mut u64) -> Outcome;
 
         pub fn strawhub_store_new(record: *mut u8, record_len: usize) -> u8;
 
@@ -265,6 +281,36 @@ pub fn tracker_ack_block(tracker: &[u8], room: &mut [u8]) -> Outcome {
 pub fn ack_expand(through: u32, count: u8, pairs: &[u8], list: &mut [u32]) -> Expanded {
     // SAFETY: slices with their own lengths.
     unsafe { c::strawhub_ack_expand(through, count, pairs.as_ptr(), pairs.len(), list.as_mut_ptr(), list.len()) }
+}
+
+pub fn sender_send(sender: &mut [u8], second: u64) -> Outcome {
+    // SAFETY: a slice with its own length.
+    unsafe { c::strawhub_sender_send(sender.as_mut_ptr(), sender.len(), second) }
+}
+
+pub fn sender_resend(sender: &mut [u8], number: u32, second: u64) -> Outcome {
+    // SAFETY: a slice with its own length.
+    unsafe { c::strawhub_sender_resend(sender.as_mut_ptr(), sender.len(), number, second) }
+}
+
+pub fn sender_ack(sender: &mut [u8], through: u32, count: u8, pairs: &[u8], settled: &mut [u32; 256]) -> Outcome {
+    // SAFETY: slices with their own lengths, an array of the declared length; the mutable ones are apart.
+    unsafe {
+        c::strawhub_sender_ack(
+            sender.as_mut_ptr(),
+            sender.len(),
+            through,
+            count,
+            pairs.as_ptr(),
+            pairs.len(),
+            settled.as_mut_ptr(),
+        )
+    }
+}
+
+pub fn sender_outstanding(sender: &[u8], k: usize, out: &mut [u64; 3]) -> Outcome {
+    // SAFETY: a slice with its own length, an array of the declared length.
+    unsafe { c::strawhub_sender_outstanding(sender.as_ptr(), sender.len(), k, out.as_mut_ptr()) }
 }
 
 pub fn store_new(record: &mut [u8]) -> u8 {

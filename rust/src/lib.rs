@@ -1,4 +1,4 @@
-//! SSU2 headers, blocks, acknowledgements and reassembly, for a daemon in Rust.
+//! SSU2 headers, blocks, acknowledgements, packets sent and reassembly, for a daemon in Rust.
 //!
 //! The work is done by libstrawhub.a, whose every function is proved to meet its contract on every
 //! input; this crate gives it types and lifetimes. Nothing here allocates, nothing needs std, and
@@ -7,6 +7,7 @@
 //! - [`HeaderReader`] unmasks and reads a packet's header, [`HeaderKind::write`] writes one.
 //! - [`Block`] reads and writes a block, [`blocks`] walks a payload, [`list_blocks`] lists it.
 //! - [`RemoteAckManager`] keeps the packet numbers that came and acknowledges them.
+//! - [`Sender`] gives out the numbers of packets that are sent, and keeps those that are not acknowledged yet.
 //! - [`FragmentHandler`] puts the pieces of I2NP messages together, and refuses late repeats of finished ones.
 //!
 //! A call that cannot do what it was asked gives a [`Refusal`], and then no state and no lent byte
@@ -43,6 +44,7 @@ mod ffi;
 mod fragment;
 mod header;
 mod refusal;
+mod sender;
 
 pub use ack::{expand, AckInfo, Ranges, RemoteAckManager};
 pub use block::{blocks, list_blocks, Block, Blocks};
@@ -50,3 +52,4 @@ pub use ffi::Entry;
 pub use fragment::{Delivered, FragmentHandler, FragmentStorage, Message, MESSAGE, RECORD, ROOM, STORAGE};
 pub use header::{keystream, HeaderKind, HeaderReader, MessageType, ProtocolVersion};
 pub use refusal::{Refusal, RefusedAt};
+pub use sender::{Outstanding, Sender, MOST_OUTSTANDING};

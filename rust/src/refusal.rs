@@ -79,6 +79,10 @@ refusals! {
     BufferShort = 56, "the message would be finished, but the assembly buffer is too short";
     AlreadyFinished = 57, "the message was finished already and its id is still remembered";
     LentShort = 59, "the lent room or record is too short, or the record names bytes outside the room";
+    SenderFull = 70, "256 packets are outstanding";
+    NumbersUsedUp = 71, "the last packet number was given out";
+    NeverGivenOut = 72, "the acknowledgement names a packet number that was never given out";
+    NotOutstanding = 73, "no packet is outstanding under the number that is to be sent again";
 }
 
 impl Refusal {

@@ -1,4 +1,4 @@
-//! The README's example of a session, which has to be this one.
+//! The README's examples, which have to be these.
 
 mod common;
 
@@ -40,6 +40,67 @@ impl Session {
     }
 }
 // README
+
+mod sending {
+    // SENDING
+    use strawhub::{blocks, Block, Refusal, Sender, MOST_OUTSTANDING};
+
+    /// An Ack block came in a payload: the packets that it settles have arrived, and their buffers may go.
+    fn acknowledged<F: FnMut(u32)>(sender: &mut Sender, payload: &[u8], mut arrived: F) -> Result<(), Refusal> {
+        let mut settled = [0; MOST_OUTSTANDING];
+        for block in blocks(payload) {
+            if let (_, Block::Ack { ack_through, num_acks, ranges }) = block.map_err(|refused| refused.refusal)? {
+                let settled = sender.ack(ack_through, num_acks, ranges, &mut settled)?; // 44, 72: the far end is at fault
+                settled.iter().for_each(|&pkt_num| arrived(pkt_num));
+            }
+        }
+        Ok(())
+    }
+
+    /// What is outstanding for 3 seconds goes out again, the oldest first: its old number is given up, its new one told.
+    fn resend_late<F: FnMut(u32, u32)>(sender: &mut Sender, now: u64, mut again: F) -> Result<(), Refusal> {
+        while let Some(late) = sender.oldest().filter(|packet| packet.sent + 3 <= now) {
+            again(late.number, sender.resend(late.number, now)?);
+        }
+        Ok(())
+    }
+    // SENDING
+
+    #[test]
+    fn the_readme_sends_so() {
+        let example = include_str!("readme.rs").split("    // SENDING\n").nth(1).unwrap();
+        let lines: String =
+            example.lines().map(|line| format!("{}\n", line.strip_prefix("    ").unwrap_or(line))).collect();
+        assert!(include_str!("../../README.md").contains(&lines));
+    }
+
+    #[test]
+    fn a_page_goes_out_again_until_it_arrives() {
+        let (mut sender, mut far) = (Sender::new(), strawhub::RemoteAckManager::new());
+        assert_eq!((sender.send(10), sender.send(10)), (Ok(1), Ok(2)));
+        far.register_pkt(2).unwrap(); // 1 is lost
+        let mut payload = [0; 262];
+        let length = far.write_ack(&mut payload).unwrap();
+        let mut arrived = Vec::new();
+        acknowledged(&mut sender, &payload[..length], |n| arrived.push(n)).unwrap();
+        assert_eq!(arrived, [2]);
+
+        let mut again = Vec::new();
+        resend_late(&mut sender, 12, |old, new| again.push((old, new))).unwrap();
+        assert_eq!(again, []);
+        resend_late(&mut sender, 13, |old, new| again.push((old, new))).unwrap();
+        assert_eq!(again, [(1, 3)]);
+
+        far.register_pkt(3).unwrap();
+        let length = far.write_ack(&mut payload).unwrap();
+        acknowledged(&mut sender, &payload[..length], |n| arrived.push(n)).unwrap();
+        assert_eq!((arrived, sender.outstanding_count()), (vec![2, 3], 0));
+
+        // an Ack block that names a number never given out settles nothing
+        let forged = [12, 0, 5, 0, 0, 0, 9, 0];
+        assert_eq!(acknowledged(&mut sender, &forged, |_| panic!("nothing arrived")), Err(Refusal::NeverGivenOut));
+    }
+}
 
 fn session() -> Session {
     Session {

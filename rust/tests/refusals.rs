@@ -6,7 +6,7 @@ use common::{first, headers, next, packet, packet_as, Lent, K1, K2, NOW};
 use std::collections::BTreeSet;
 use strawhub::{
     blocks, expand, list_blocks, Block, Entry, FragmentHandler, FragmentStorage, HeaderKind, HeaderReader, Message,
-    Ranges, Refusal, RemoteAckManager, MESSAGE, RECORD, ROOM, STORAGE,
+    Ranges, Refusal, RemoteAckManager, Sender, MESSAGE, MOST_OUTSTANDING, RECORD, ROOM, STORAGE,
 };
 
 /// A payload that is refused, by the reader, the walk, the listing and the store alike.
@@ -141,6 +141,21 @@ fn of_acks() -> Vec<u8> {
     found
 }
 
+/// 71 stands beside the code, in src/sender.rs: no test has the time to use up the numbers.
+fn of_senders() -> Vec<u8> {
+    let mut sender = Sender::new();
+    (0..MOST_OUTSTANDING).for_each(|_| assert!(sender.send(NOW).is_ok()));
+    let before = sender.clone();
+    let mut found = vec![sender.send(NOW).unwrap_err().number(), sender.resend(257, NOW).unwrap_err().number()];
+    let mut list = [9; MOST_OUTSTANDING];
+    for (through, count) in [(257, 0), (257, 255), (254, 255)] {
+        found.push(sender.ack(through, count, Ranges::new(&[1, 1]), &mut list).unwrap_err().number());
+    }
+    assert!(sender == before && list == [9; MOST_OUTSTANDING]);
+    assert_eq!(found, [70, 73, 72, 72, 44]);
+    found
+}
+
 fn of_stores() -> Vec<u8> {
     let mut lent = Lent::new();
     let mut found = vec![lent.refuses(first(1, b"")), lent.refuses(next(1, 0, false, b"a"))];
@@ -222,8 +237,8 @@ fn a_65th_finished_message_pushes_out_the_first() {
 
 #[test]
 fn every_refusal_is_given_and_changes_nothing() {
-    let found = [of_blocks(), of_headers(), of_writing(), of_acks(), of_stores(), of_short_bytes()].concat();
-    let found: BTreeSet<u8> = found.into_iter().collect();
+    let found = [of_blocks(), of_headers(), of_writing(), of_acks(), of_senders(), of_stores(), of_short_bytes()];
+    let found: BTreeSet<u8> = found.concat().into_iter().chain([Refusal::NumbersUsedUp.number()]).collect();
     let all: BTreeSet<u8> = Refusal::ALL.iter().map(|refusal| refusal.number()).collect();
     assert_eq!(found, all);
 }
@@ -235,5 +250,5 @@ fn a_refusal_has_its_number_and_a_sentence_of_its_own() {
     for &refusal in Refusal::ALL {
         assert_eq!(Refusal::from_number(refusal.number().into()), Some(refusal));
     }
-    assert!([0, 11, 45, 58, 60, 256 + 1].into_iter().all(|number| Refusal::from_number(number).is_none()));
+    assert!([0, 11, 45, 58, 60, 69, 74, 256 + 1].into_iter().all(|number| Refusal::from_number(number).is_none()));
 }

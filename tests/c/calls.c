@@ -285,6 +285,296 @@ static void ack_expand(void)
 	CHECK(memcmp(list, named, sizeof named) == 0 && all(list + 6, 8, 0x77));
 }
 
+/* ---- the sender: the readings of document 02 by their numbers ---- */
+
+/* A sender and the numbers that an ack settled; and both as they were before the last call. */
+static struct sent {
+	uint8_t sender[STRAWHUB_SENDER];
+	uint32_t settled[STRAWHUB_OUTSTANDING];
+} sent, sent_before;
+
+static void new_sender(void)
+{
+	memset(&sent, 0x5a, sizeof sent);
+	CHECK(strawhub_sender_new(sent.sender, STRAWHUB_SENDER) == 0);
+	CHECK(all(sent.sender, STRAWHUB_SENDER, 0));
+}
+
+static struct strawhub_outcome send_at(uint64_t second)
+{
+	sent_before = sent;
+	return strawhub_sender_send(sent.sender, sizeof sent.sender, second);
+}
+
+static struct strawhub_outcome resend_at(uint32_t number, uint64_t second)
+{
+	sent_before = sent;
+	return strawhub_sender_resend(sent.sender, sizeof sent.sender, number, second);
+}
+
+static struct strawhub_outcome ack_with(uint32_t through, uint8_t count, const uint8_t *pairs, size_t pairs_len)
+{
+	memset(sent.settled, 0x5a, sizeof sent.settled);
+	sent_before = sent;
+	return strawhub_sender_ack(sent.sender, sizeof sent.sender, through, count, pairs, pairs_len, sent.settled);
+}
+
+/* An Ack block without pairs. */
+static struct strawhub_outcome ack(uint32_t through, uint8_t count)
+{
+	return ack_with(through, count, NULL, 0);
+}
+
+/* Whether a call was refused with a number and left every lent byte. */
+static int refuses(uint64_t number, struct strawhub_outcome o)
+{
+	return is(o, number, 0) && memcmp(&sent, &sent_before, sizeof sent) == 0;
+}
+
+/* Whether an ack was taken and settled these numbers, in this order; the rest of the list stays. */
+static int settles(size_t n, const uint32_t *numbers, struct strawhub_outcome o)
+{
+	return is(o, 0, n) && (n == 0 || memcmp(sent.settled, numbers, n * sizeof *numbers) == 0) &&
+	       all(sent.settled + n, (STRAWHUB_OUTSTANDING - n) * sizeof *numbers, 0x5a);
+}
+
+static int is_packet(size_t k, uint64_t number, uint64_t second, uint64_t resends)
+{
+	uint64_t out[3];
+	memset(out, 0x77, sizeof out);
+	return strawhub_sender_outstanding(sent.sender, sizeof sent.sender, k, out).number == 0 && out[0] == number &&
+	       out[1] == second && out[2] == resends;
+}
+
+/* Whether these numbers are outstanding, in this order, and no other. */
+static int outstanding(size_t n, const uint32_t *numbers)
+{
+	uint64_t out[3];
+	size_t k;
+	for (k = 0; k < n; k++)
+		if (!is(strawhub_sender_outstanding(sent.sender, sizeof sent.sender, k, out), 0, n) || out[0] != numbers[k])
+			return 0;
+	memset(out, 0x77, sizeof out);
+	return is(strawhub_sender_outstanding(sent.sender, sizeof sent.sender, n, out), 0, n) &&
+	       is(strawhub_sender_outstanding(sent.sender, sizeof sent.sender, SIZE_MAX, out), 0, n) &&
+	       all(out, sizeof out, 0x77);
+}
+
+/* A new sender that has given out 1 to n, all at second 10. */
+static void given_out(uint32_t n)
+{
+	uint32_t i;
+	new_sender();
+	for (i = 1; i <= n; i++)
+		CHECK(is(send_at(10), 0, i));
+}
+
+static const uint32_t one_to_three[] = {1, 2, 3};
+
+/* 6.1: a resend takes the next number, its own second and one resend more. */
+static void sender_resend(void)
+{
+	static const uint32_t left[] = {1, 3, 4}, later[] = {1, 3, 5};
+	given_out(3);
+	CHECK(outstanding(3, one_to_three) && is_packet(1, 2, 10, 0));
+	CHECK(is(resend_at(2, 17), 0, 4));
+	CHECK(outstanding(3, left) && is_packet(0, 1, 10, 0) && is_packet(1, 3, 10, 0) && is_packet(2, 4, 17, 1));
+	CHECK(is(resend_at(4, UINT64_MAX), 0, 5));
+	CHECK(outstanding(3, later) && is_packet(2, 5, UINT64_MAX, 2));
+	CHECK(refuses(73, resend_at(2, 18)) && refuses(73, resend_at(4, 18)) && refuses(73, resend_at(6, 18)));
+	CHECK(is(send_at(9), 0, 6) && is_packet(3, 6, 9, 0)); /* a clock that went back is taken as it is */
+}
+
+/* The highest number given out, which stands in front, set by hand: no test has the time for four billion sends. */
+static void set_highest(uint32_t n)
+{
+	int i;
+	for (i = 0; i < 4; i++)
+		sent.sender[i] = (uint8_t)(n >> 8 * i);
+}
+
+/* 6.2: a send is refused by 71 before 70, a resend by 73 before 71. */
+static void sender_used_up(void)
+{
+	static const uint32_t last[] = {1, 4294967294u, 4294967295u}, first[] = {1};
+	given_out(256);
+	set_highest(4294967295u);
+	CHECK(refuses(71, send_at(11)));
+	CHECK(refuses(71, resend_at(5, 11)) && refuses(71, resend_at(256, 11)));
+	CHECK(refuses(73, resend_at(257, 11)) && refuses(73, resend_at(0, 11)) && refuses(73, resend_at(4294967295u, 11)));
+	CHECK(is_packet(4, 5, 10, 0) && is_packet(255, 256, 10, 0));
+	given_out(2);
+	set_highest(4294967293u);
+	CHECK(is(send_at(11), 0, 4294967294u));
+	CHECK(is(resend_at(2, 12), 0, 4294967295u));
+	CHECK(outstanding(3, last) && is_packet(2, 4294967295u, 12, 1));
+	CHECK(refuses(71, send_at(13)) && refuses(71, resend_at(1, 13)) && refuses(73, resend_at(2, 13)));
+	CHECK(settles(2, last + 1, ack(4294967295u, 1)));
+	CHECK(outstanding(1, first) && refuses(71, send_at(14)));
+	given_out(1);
+	set_highest(4294967294u);
+	CHECK(is(send_at(11), 0, 4294967295u) && is_packet(1, 4294967295u, 11, 0) && refuses(71, send_at(11)));
+}
+
+/* 6.3, 6.4: 72 where through is above the highest number given out, but 44 first; either settles nothing. */
+static void sender_never_given(void)
+{
+	static const uint8_t one[] = {1, 1}, low[] = {3, 2}, apart[] = {1, 0, 0, 3};
+	new_sender();
+	CHECK(refuses(72, ack(1, 0)) && refuses(72, ack(1, 1)) && refuses(44, ack(1, 2)) && refuses(44, ack(0, 1)));
+	given_out(3);
+	CHECK(refuses(72, ack(4, 3)) && refuses(72, ack_with(4, 0, one, 2)) && refuses(72, ack(4294967295u, 255)));
+	CHECK(refuses(44, ack(4, 5)) && refuses(44, ack(3, 4)));
+	CHECK(refuses(44, ack_with(4, 0, low, 2)) && refuses(44, ack_with(3, 0, apart, 4)));
+	CHECK(outstanding(3, one_to_three));
+	CHECK(settles(3, one_to_three, ack(3, 3)) && outstanding(0, NULL));
+	CHECK(refuses(72, ack(4, 0))); /* all are settled, and 4 was still never given out */
+}
+
+/* 6.5, 6.11: what was given up stays so, and its new number waits for its own acknowledgement. */
+static void sender_given_up(void)
+{
+	static const uint32_t odd[] = {1, 3}, two[] = {2}, three[] = {3}, four[] = {4};
+	given_out(3);
+	CHECK(is(resend_at(2, 17), 0, 4));
+	CHECK(settles(2, odd, ack(3, 2)) && outstanding(1, four));
+	CHECK(settles(0, NULL, ack(3, 2)) && refuses(73, resend_at(2, 18)) && outstanding(1, four));
+	CHECK(settles(1, four, ack(4, 4)) && outstanding(0, NULL) && refuses(73, resend_at(4, 18)));
+	given_out(2);
+	CHECK(is(resend_at(1, 11), 0, 3));
+	CHECK(settles(1, two, ack(2, 0)) && outstanding(1, three));
+	CHECK(refuses(73, resend_at(1, 12)) && refuses(73, resend_at(2, 12)));
+}
+
+/* 6.6, 6.7, 6.8: 0 is acked without effect; an odd last byte is dropped; an ack may settle nothing. */
+static void sender_ack(void)
+{
+	static const uint8_t odd[] = {1, 1, 1}, none[] = {0, 0, 2, 1, 0, 0};
+	static const uint32_t ends[] = {1, 3}, two[] = {2};
+	new_sender();
+	CHECK(settles(0, NULL, ack(0, 0)) && refuses(73, resend_at(0, 10)));
+	given_out(3);
+	CHECK(settles(0, NULL, ack(0, 0)) && outstanding(3, one_to_three));
+	CHECK(settles(2, ends, ack_with(3, 0, odd, 3)) && outstanding(1, two) && is_packet(0, 2, 10, 0));
+	CHECK(settles(0, NULL, ack_with(3, 0, odd, 2)) && outstanding(1, two));
+	given_out(3);
+	CHECK(settles(1, one_to_three + 2, ack_with(3, 0, none, 6))); /* 3 and 0: pairs may have nothing in them */
+	CHECK(settles(1, one_to_three + 1, ack_with(2, 0, odd, 1)) && outstanding(1, one_to_three));
+}
+
+/* 6.9: 70 means that 256 are outstanding, and a resend is fine then. */
+static void sender_full(void)
+{
+	uint32_t numbers[STRAWHUB_OUTSTANDING];
+	uint8_t pairs[254];
+	size_t i;
+	given_out(255);
+	CHECK(is(send_at(11), 0, 256) && is_packet(255, 256, 11, 0));
+	CHECK(refuses(70, send_at(12)));
+	CHECK(is(resend_at(256, 12), 0, 257) && is_packet(255, 257, 12, 1));
+	CHECK(refuses(70, send_at(13)));
+	CHECK(is(resend_at(1, 13), 0, 258) && is_packet(0, 2, 10, 0) && is_packet(255, 258, 13, 1));
+	given_out(256);
+	for (i = 0; i < 256; i++)
+		numbers[i] = (uint32_t)i + 1;
+	CHECK(outstanding(256, numbers));
+	CHECK(settles(256, numbers, ack(256, 255)) && outstanding(0, NULL)); /* all of them at once */
+	given_out(256);
+	memset(pairs, 1, sizeof pairs);
+	for (i = 0; i < 128; i++)
+		numbers[i] = 2 * (uint32_t)i + 2;
+	CHECK(settles(128, numbers, ack_with(256, 0, pairs, 254))); /* every second one */
+	for (i = 0; i < 128; i++)
+		numbers[i] = 2 * (uint32_t)i + 1;
+	CHECK(outstanding(128, numbers));
+	for (i = 0; i < 128; i++)
+		CHECK(is(send_at(14), 0, 257 + i));
+	CHECK(refuses(70, send_at(14)) && is_packet(127, 255, 10, 0) && is_packet(128, 257, 14, 0));
+}
+
+/* 6.10: a record of one byte too few, or of none, is a 59 for every call; bytes behind the 4,104 stay. */
+static void sender_record(void)
+{
+	static const size_t lengths[] = {STRAWHUB_SENDER - 1, 8, 0};
+	uint8_t longer[STRAWHUB_SENDER + 9];
+	uint64_t out[3];
+	size_t i;
+	CHECK(STRAWHUB_SENDER == 4104);
+	given_out(3);
+	memset(sent.settled, 0x5a, sizeof sent.settled);
+	sent_before = sent;
+	memset(out, 0x77, sizeof out);
+	for (i = 0; i < 3; i++) {
+		size_t n = lengths[i];
+		struct strawhub_outcome none = {strawhub_sender_new(sent.sender, n), 0};
+		CHECK(refuses(59, none) && refuses(59, strawhub_sender_send(sent.sender, n, 11)));
+		CHECK(refuses(59, strawhub_sender_resend(sent.sender, n, 2, 11)));
+		CHECK(refuses(59, strawhub_sender_resend(sent.sender, n, 9, 11)));
+		CHECK(refuses(59, strawhub_sender_ack(sent.sender, n, 3, 0, NULL, 0, sent.settled)));
+		CHECK(refuses(59, strawhub_sender_ack(sent.sender, n, 3, 9, NULL, 0, sent.settled)));
+		CHECK(refuses(59, strawhub_sender_outstanding(sent.sender, n, 0, out)) && all(out, sizeof out, 0x77));
+	}
+	memset(longer, 0x5a, sizeof longer);
+	CHECK(strawhub_sender_new(longer, sizeof longer) == 0 && all(longer, STRAWHUB_SENDER, 0));
+	for (i = 1; i <= 256; i++)
+		CHECK(is(strawhub_sender_send(longer, sizeof longer, 7), 0, i));
+	CHECK(is(strawhub_sender_resend(longer, sizeof longer, 256, 8), 0, 257));
+	CHECK(is(strawhub_sender_ack(longer, sizeof longer, 257, 0, NULL, 0, sent.settled), 0, 1));
+	CHECK(sent.settled[0] == 257 && all(longer + STRAWHUB_SENDER, 9, 0x5a));
+}
+
+/* A record that no call made: a count above 256 is read as 256, and a resend count may be the last one. */
+static void sender_forged(void)
+{
+	uint64_t out[3];
+	new_sender();
+	memset(sent.sender, 0xff, sizeof sent.sender);
+	CHECK(is(strawhub_sender_outstanding(sent.sender, sizeof sent.sender, 255, out), 0, 256));
+	CHECK(out[0] == 0xffffffffu && out[1] == UINT64_MAX && out[2] == 0xffffffffu);
+	CHECK(refuses(71, send_at(1)) && refuses(71, resend_at(0xffffffffu, 1)) && refuses(73, resend_at(1, 1)));
+	set_highest(5);
+	CHECK(refuses(70, send_at(1)) && refuses(72, ack(6, 0)));
+	CHECK(settles(0, NULL, ack(5, 5)) && sent.sender[4] == 0 && sent.sender[5] == 1 && sent.sender[6] == 0);
+	CHECK(is(resend_at(0xffffffffu, 9), 0, 6));
+	CHECK(is_packet(0, 0xffffffffu, UINT64_MAX, 0xffffffffu) && is_packet(255, 6, 9, 0));
+}
+
+/* The far tracker's report, fed in. */
+static struct strawhub_outcome ack_report(const uint64_t report[3], const uint8_t pairs[254])
+{
+	return ack_with((uint32_t)report[0], (uint8_t)report[1], pairs, (size_t)report[2]);
+}
+
+/* 6.12: reports of the far tracker, in another order and again. */
+static void sender_reports(void)
+{
+	uint8_t far[STRAWHUB_TRACKER] = {0}, a_pairs[254], b_pairs[254];
+	uint64_t a[3], b[3];
+	given_out(2);
+	CHECK(strawhub_tracker_register(far, sizeof far, 1) == 0);
+	CHECK(strawhub_tracker_report(far, sizeof far, a, a_pairs) == 0);
+	CHECK(strawhub_tracker_register(far, sizeof far, 2) == 0);
+	CHECK(strawhub_tracker_report(far, sizeof far, b, b_pairs) == 0);
+	CHECK(settles(2, one_to_three, ack_report(b, b_pairs)) && outstanding(0, NULL));
+	CHECK(settles(0, NULL, ack_report(a, a_pairs)) && settles(0, NULL, ack_report(a, a_pairs)));
+}
+
+/* 6.13: progress is not promised. After 255 numbers that were lost the far tracker refuses every later one; a sender
+ * that keeps both rules of the header never gets there. */
+static void sender_progress(void)
+{
+	static const uint32_t left[] = {256};
+	uint8_t far[STRAWHUB_TRACKER] = {0};
+	uint32_t n;
+	given_out(1);
+	for (n = 1; n <= 255; n++)
+		CHECK(is(resend_at(n, 10 + n), 0, n + 1));
+	CHECK(outstanding(1, left) && is_packet(0, 256, 265, 255));
+	CHECK(strawhub_tracker_register(far, sizeof far, 256) == STRAWHUB_NUMBER_HIGH);
+	CHECK(strawhub_tracker_register(far, sizeof far, 257) == STRAWHUB_NUMBER_HIGH);
+	CHECK(strawhub_tracker_register(far, sizeof far, 255) == 0);
+}
+
 /* A store and a copy of it. */
 static struct store {
 	uint8_t record[STRAWHUB_RECORD], room[STRAWHUB_ROOM], out[STRAWHUB_MESSAGE];
@@ -662,6 +952,16 @@ int main(void)
 	tracker_report();
 	tracker_ack_block();
 	ack_expand();
+	sender_resend();
+	sender_used_up();
+	sender_never_given();
+	sender_given_up();
+	sender_ack();
+	sender_full();
+	sender_record();
+	sender_forged();
+	sender_reports();
+	sender_progress();
 	story();
 	store_pieces();
 	store_long();

@@ -2,7 +2,8 @@
  *
  * Every lent slice stands flush against a page that cannot be touched, before it or after it, so that a byte too far
  * stops the run. After a refusal all lent bytes are compared with a copy; after a success those that the call may
- * not write, and what it says that it left. Trackers and stores go on from call to call, some of them forged. */
+ * not write, and what it says that it left. Trackers, senders and stores go on from call to call, some of them
+ * forged. */
 #define _DEFAULT_SOURCE
 #include "strawhub.h"
 
@@ -19,13 +20,15 @@
 
 static const char *call = "";
 static unsigned long long seed, calls, total;
-static unsigned long long answered[64];
+static unsigned long long answered[STRAWHUB_NOT_OUTSTANDING + 1]; /* the highest number */
 
 static void stop(const char *why)
 {
 	fprintf(stderr, "fuzz: %s: %s, at call %llu of seed %llu\n", call, why, calls, seed);
 	_exit(1);
 }
+
+static uint64_t second_now = 1000;
 
 /* ---- numbers from the seed: xorshift64* ---- */
 
@@ -82,8 +85,9 @@ static struct fence packet = {.size = 1600}, key1 = {.size = 32}, key2 = {.size 
 static struct fence numbers = {.size = 96}, fields = {.size = 64}, payload = {.size = 70000}, bytes = {.size = 70000};
 static struct fence list = {.size = 16 * 700}, room = {.size = 70000}, pairs = {.size = 300};
 static struct fence tracker = {.size = 400}, record = {.size = STRAWHUB_RECORD + 400}, out = {.size = 65600};
-static struct fence *const fences[] = {&packet, &key1, &key2,  &nonce,   &numbers, &fields, &payload,
-                                       &bytes,  &list, &room, &pairs, &tracker, &record,  &out};
+static struct fence sender = {.size = STRAWHUB_SENDER + 400}, settled = {.size = STRAWHUB_OUTSTANDING * 4};
+static struct fence *const fences[] = {&packet, &key1, &key2,  &nonce,   &numbers, &fields, &payload, &bytes,
+                                       &list,   &room, &pairs, &tracker, &record,  &out,    &sender,  &settled};
 
 static struct fence *lent[16];
 static size_t lents;
@@ -218,7 +222,7 @@ static int is_refusal(uint64_t number)
 static void answer(uint64_t number)
 {
 	size_t i;
-	if (number > STRAWHUB_FINISHED)
+	if (number > STRAWHUB_NOT_OUTSTANDING)
 		stop("no such number");
 	answered[number]++;
 	for (i = 0; i < lents; i++) {
@@ -693,10 +697,268 @@ static void ack_expand(void)
 		must(numbers_named[i] < numbers_named[i - 1], "numbers that do not fall");
 }
 
+/* ---- senders ---- */
+
+#define HEAD 8          /* the highest number given out and the count of outstanding packets, low byte first */
+#define PACKET_BYTES 16 /* then the packets: number, resends, second */
+
+static uint8_t sender_now[STRAWHUB_SENDER];
+
+static uint64_t little(const uint8_t *at, unsigned width)
+{
+	uint64_t x = 0;
+	while (width--)
+		x = x << 8 | at[width];
+	return x;
+}
+
+static void put_little(uint8_t *at, unsigned width, uint64_t x)
+{
+	while (width--) {
+		*at++ = (uint8_t)x;
+		x >>= 8;
+	}
+}
+
+static uint32_t highest_of(const uint8_t *s)
+{
+	return (uint32_t)little(s, 4);
+}
+
+static size_t count_of(const uint8_t *s)
+{
+	uint64_t n = little(s + 4, 4);
+	return n < STRAWHUB_OUTSTANDING ? (size_t)n : STRAWHUB_OUTSTANDING;
+}
+
+static const uint8_t *packet_of(const uint8_t *s, size_t k)
+{
+	return s + HEAD + k * PACKET_BYTES;
+}
+
+/* So many packets are outstanding, as calls would have left them: their numbers rise to the highest, with gaps. */
+static void send_many(uint32_t highest, size_t n)
+{
+	uint32_t number = highest;
+	put_little(sender_now, 4, highest);
+	put_little(sender_now + 4, 4, n);
+	while (n--) {
+		uint8_t *p = sender_now + HEAD + n * PACKET_BYTES;
+		put_little(p, 4, number);
+		put_little(p + 4, 4, one_in(3) ? below(9) : 0);
+		put_little(p + 8, 8, second_now - below(40));
+		number -= 1 + (uint32_t)(one_in(4) ? below(3) : 0);
+	}
+}
+
+static void forge_sender(void)
+{
+	if (one_in(4000))
+		any_bytes(sender_now, sizeof sender_now);
+	if (one_in(3000))
+		mutate(sender_now, sizeof sender_now);
+	if (one_in(3000))
+		mutate(sender_now, HEAD);
+	if (one_in(1000))
+		send_many(1000 + (uint32_t)below(100000), STRAWHUB_OUTSTANDING - below(3));
+	if (one_in(4000)) /* the last numbers are given out */
+		send_many(UINT32_MAX - (uint32_t)below(3), one_in(2) ? STRAWHUB_OUTSTANDING : below(STRAWHUB_OUTSTANDING));
+}
+
+/* The sender as the last call left it, at times forged, at times short or longer than it has to be. */
+static uint8_t *lend_sender(int writes)
+{
+	size_t n = one_in(60) ? below(STRAWHUB_SENDER + 401) : STRAWHUB_SENDER;
+	uint8_t *at;
+	if (one_in(100))
+		n = STRAWHUB_SENDER - 1;
+	forge_sender();
+	at = lend(&sender, n, writes);
+	memset(sender.at, 0x33, n);
+	memcpy(sender.at, sender_now, n < sizeof sender_now ? n : sizeof sender_now);
+	return at;
+}
+
+/* A call that was taken leaves so many packets: what stands behind them stays. */
+static void keep_sender(size_t packets)
+{
+	must(little(sender.at + 4, 4) == packets, "another count is left");
+	stays(&sender, HEAD + packets * PACKET_BYTES);
+	memcpy(sender_now, sender.at, sizeof sender_now);
+}
+
+static int used_up(void)
+{
+	return highest_of(sender.at) == UINT32_MAX;
+}
+
+/* Where the packet of a number stands in what was lent, or their count. */
+static size_t place_of(uint32_t number)
+{
+	size_t n = count_of(sender.at), k = 0;
+	while (k < n && little(packet_of(sender.at, k), 4) != number)
+		k++;
+	return k;
+}
+
+/* The number of some outstanding packet, or any. */
+static uint32_t any_outstanding(void)
+{
+	size_t n = count_of(sender_now);
+	if (n == 0 || one_in(8))
+		return one_in(2) ? (uint32_t)any() : highest_of(sender_now) - (uint32_t)below(300);
+	return (uint32_t)little(packet_of(sender_now, below(n)), 4);
+}
+
+static void sender_new(void)
+{
+	uint8_t *at = lend_sender(1);
+	uint32_t number;
+	copy_lent();
+	number = strawhub_sender_new(at, sender.n);
+	must(number == (sender.n < STRAWHUB_SENDER ? 59 : 0), "another number");
+	answer(number);
+	if (number != 0)
+		return;
+	memset(sender_now, 0, sizeof sender_now);
+	must(memcmp(sender.at, sender_now, sizeof sender_now) == 0, "a new sender is not all zero");
+	stays(&sender, sizeof sender_now);
+}
+
+/* What a send or a resend leaves: the next number is given out, and its packet stands last. */
+static void is_given_out(uint64_t number, size_t packets, uint64_t resends)
+{
+	const uint8_t *p = packet_of(sender.at, packets - 1);
+	must(number == (uint64_t)highest_of(sender.copy) + 1 && highest_of(sender.at) == number, "not the next number");
+	must(little(p, 4) == number && little(p + 4, 4) == resends && little(p + 8, 8) == second_now, "another packet");
+	keep_sender(packets);
+}
+
+static void sender_send(void)
+{
+	uint8_t *at = lend_sender(1);
+	struct strawhub_outcome o;
+	size_t n = sender.n < STRAWHUB_SENDER ? 0 : count_of(sender.at);
+	unsigned due = sender.n < STRAWHUB_SENDER ? 59 : used_up() ? 71 : n == STRAWHUB_OUTSTANDING ? 70 : 0;
+	copy_lent();
+	o = strawhub_sender_send(at, sender.n, second_now);
+	must(o.number == due, "another number");
+	answer(o.number);
+	if (o.number != 0)
+		return;
+	must(memcmp(sender.at + HEAD, sender.copy + HEAD, n * PACKET_BYTES) == 0, "a send changed another packet");
+	is_given_out(o.value, n + 1, 0);
+}
+
+static void sender_resend(void)
+{
+	uint8_t *at = lend_sender(1);
+	uint32_t number = any_outstanding();
+	struct strawhub_outcome o;
+	size_t n = sender.n < STRAWHUB_SENDER ? 0 : count_of(sender.at), k = n == 0 ? 0 : place_of(number);
+	unsigned due = sender.n < STRAWHUB_SENDER ? 59 : k == n ? 73 : used_up() ? 71 : 0;
+	copy_lent();
+	o = strawhub_sender_resend(at, sender.n, number, second_now);
+	must(o.number == due, "another number");
+	answer(o.number);
+	if (o.number != 0)
+		return;
+	must(memcmp(sender.at + HEAD, sender.copy + HEAD, k * PACKET_BYTES) == 0 &&
+	         memcmp(packet_of(sender.at, k), packet_of(sender.copy, k + 1), (n - 1 - k) * PACKET_BYTES) == 0,
+	     "a resend changed another packet");
+	is_given_out(o.value, n, (uint32_t)(little(packet_of(sender.copy, k) + 4, 4) + 1));
+}
+
+/* Whether an acknowledgement names a number: count below through, then by turns missing ones and others. */
+static int names(uint32_t through, uint8_t count, uint32_t number)
+{
+	int64_t x = number, above = (int64_t)through + 1, low = (int64_t)through - count;
+	size_t i;
+	for (i = 0;; i += 2) {
+		if (low <= x && x < above)
+			return 1;
+		if (pairs.n - i < 2 || above <= x)
+			return 0;
+		above = low - pairs.at[i];
+		low = above - pairs.at[i + 1];
+	}
+}
+
+/* What an ack is answered. */
+static unsigned ack_due(uint32_t through, uint8_t count)
+{
+	uint64_t reach = count;
+	size_t i;
+	for (i = 0; i < pairs.n - pairs.n % 2; i++)
+		reach += pairs.at[i];
+	return sender.n < STRAWHUB_SENDER ? 59 : reach > through ? 44 : through > highest_of(sender.at) ? 72 : 0;
+}
+
+/* What an ack leaves: those that it names are settled, the others stay outstanding, both in their order. */
+static void is_settled(uint32_t through, uint8_t count, uint64_t said)
+{
+	const uint32_t *numbers_settled = (const uint32_t *)(const void *)settled.at;
+	size_t n = count_of(sender.copy), k, gone = 0, left = 0;
+	for (k = 0; k < n; k++) {
+		const uint8_t *p = packet_of(sender.copy, k);
+		if (names(through, count, (uint32_t)little(p, 4)))
+			must(gone < said && numbers_settled[gone++] == little(p, 4), "a packet that is named is not settled");
+		else
+			must(memcmp(packet_of(sender.at, left++), p, PACKET_BYTES) == 0, "a packet that is not named is gone");
+	}
+	must(gone == said, "another count is settled");
+	must(highest_of(sender.at) == highest_of(sender.copy), "an ack gives out a number");
+	stays(&settled, gone * 4);
+	keep_sender(left);
+}
+
+/* Pairs of an Ack block: short runs, or any. */
+static const uint8_t *lend_pairs(void)
+{
+	const uint8_t *at = lend(&pairs, one_in(4) ? below(301) : below(10), 0);
+	size_t i, most = one_in(4) ? 256 : 1 + below(4);
+	for (i = 0; i < pairs.n; i++)
+		pairs.at[i] = (uint8_t)below(most);
+	return at;
+}
+
+static void sender_ack(void)
+{
+	uint8_t *at = lend_sender(1), count = (uint8_t)(one_in(8) ? any() : below(4));
+	uint32_t through = one_in(30) ? (uint32_t)any() : any_outstanding() + one_in(30);
+	uint32_t *s = (uint32_t *)(void *)lend(&settled, settled.size, 1);
+	const uint8_t *p = lend_pairs();
+	unsigned due = ack_due(through, count);
+	struct strawhub_outcome o;
+	any_bytes(settled.at, settled.n);
+	copy_lent();
+	o = strawhub_sender_ack(at, sender.n, through, count, p, pairs.n, s);
+	must(o.number == due, "another number");
+	answer(o.number);
+	if (o.number == 0)
+		is_settled(through, count, o.value);
+}
+
+static void sender_outstanding(void)
+{
+	uint8_t *at = lend_sender(0);
+	size_t k = one_in(20) ? (size_t)any() : below(300), n = count_of(sender_now);
+	uint64_t *o = lend_numbers(3);
+	const uint8_t *p = packet_of(sender.copy, k < n ? k : 0);
+	struct strawhub_outcome r;
+	copy_lent();
+	r = strawhub_sender_outstanding(at, sender.n, k, o);
+	must(r.number == (sender.n < STRAWHUB_SENDER ? 59 : 0) && r.value == (r.number == 0 ? n : 0), "another number");
+	answer(r.number);
+	if (r.number == 0 && k < n)
+		must(o[0] == little(p, 4) && o[1] == little(p + 8, 8) && o[2] == little(p + 4, 4), "another packet");
+	else
+		stays(&numbers, 0);
+}
+
 /* ---- stores ---- */
 
 static uint8_t record_now[STRAWHUB_RECORD];
-static uint64_t second_now = 1000;
 static int room_first; /* the room stands flush against the page before it */
 static uint8_t *room_at;
 static size_t room_length;
@@ -896,6 +1158,11 @@ static const struct {
 	{"strawhub_tracker_report", tracker_report, 5},
 	{"strawhub_tracker_ack_block", tracker_ack_block, 5},
 	{"strawhub_ack_expand", ack_expand, 8},
+	{"strawhub_sender_new", sender_new, 0}, /* as rare as any_call has it */
+	{"strawhub_sender_send", sender_send, 14},
+	{"strawhub_sender_resend", sender_resend, 6},
+	{"strawhub_sender_ack", sender_ack, 8},
+	{"strawhub_sender_outstanding", sender_outstanding, 3},
 	{"strawhub_store_new", store_new, 0}, /* as rare as any_call has it */
 	{"strawhub_store_first", store_first, 8},
 	{"strawhub_store_follow_on", store_follow_on, 20},
@@ -904,7 +1171,8 @@ static const struct {
 };
 
 #define ALL (sizeof all / sizeof all[0])
-#define STORE_NEW 12
+#define SENDER_NEW 12
+#define STORE_NEW 17
 
 static size_t any_call(void)
 {
@@ -915,6 +1183,8 @@ static size_t any_call(void)
 			sum += all[i].weight;
 	if (one_in(10000))
 		return STORE_NEW;
+	if (one_in(2000))
+		return SENDER_NEW;
 	at = below(sum);
 	for (i = 0; at >= all[i].weight; i++)
 		at -= all[i].weight;
@@ -925,7 +1195,8 @@ static size_t any_call(void)
 static int every_number_came(void)
 {
 	static const uint8_t given[] = {0,  1,  2,  3,  4,  5,  6,  7,  8,  9,  10, 20, 21, 22, 23, 24, 25, 30,
-	                                31, 32, 40, 41, 42, 43, 44, 46, 50, 51, 52, 53, 54, 55, 56, 57, 59, 60};
+	                                31, 32, 40, 41, 42, 43, 44, 46, 50, 51, 52, 53, 54, 55, 56, 57, 59, 60,
+	                                70, 71, 72, 73};
 	size_t i;
 	int whole = 1;
 	for (i = 0; i < sizeof given; i++) {

@@ -1,5 +1,7 @@
 """Slices of no bytes: with a count of 0 the pointer may be anything."""
 from lent import Lent, numbers
+from sender_model import MOST
+from sender_record_model import SENDER
 from stores import RECORD, ROOM
 
 ANYTHING = (0, 1, 3, 4096, (1 << 47) - 1, (1 << 64) - 1)
@@ -8,7 +10,7 @@ ANYTHING = (0, 1, 3, 4096, (1 << 47) - 1, (1 << 64) - 1)
 class Nothing:
     def __init__(self, calls, judge, pointer):
         self.calls, self.judge, self.none = calls, judge, (pointer, 0)
-        self.lent = {size: Lent(bytes(size)) for size in (11 * 8, 12 * 8, 259, 254, 24, RECORD, ROOM, 48)}
+        self.lent = {size: Lent(bytes(size)) for size in (11 * 8, 12 * 8, 259, 254, 24, SENDER, 4 * MOST, RECORD, ROOM, 48)}
 
     def at(self, size):
         return self.lent[size].slice()
@@ -48,6 +50,17 @@ class Nothing:
         self.says("ack_expand", self.calls.ack_expand(1, 1, *none, *none), 46)
         self.says("ack_expand", self.calls.ack_expand(1, 2, *none, *none), 44)
 
+    def senders(self):
+        none, record, settled, out = self.none, self.at(SENDER), self.lent[4 * MOST].address, self.lent[24].address
+        self.says("sender_new", self.calls.sender_new(*none), 59)
+        self.says("sender_send", self.calls.sender_send(*none, 1), (59, 0))
+        self.says("sender_resend", self.calls.sender_resend(*none, 1, 1), (59, 0))
+        self.says("sender_outstanding", self.calls.sender_outstanding(*none, 0, out), (59, 0))
+        self.says("sender_ack", self.calls.sender_ack(*none, 0, 0, *none, settled), (59, 0))
+        self.says("sender_ack", self.calls.sender_ack(*record, 0, 0, *none, settled), (0, 0))
+        self.says("sender_ack", self.calls.sender_ack(*record, 0, 1, *none, settled), (44, 0))
+        self.says("sender_ack", self.calls.sender_ack(*record, 1, 1, *none, settled), (72, 0))
+
     def stores(self):
         none, record, room, piece = self.none, self.at(RECORD), self.at(ROOM), Lent(b"abc").slice()
         self.says("store_new", self.calls.store_new(*none), 59)
@@ -70,6 +83,7 @@ def run(calls, judge, rng, whole):
         n = Nothing(calls, judge, pointer)
         n.headers()
         n.trackers()
+        n.senders()
         n.stores()
         n.blocks()
         n.deliveries()

@@ -10,6 +10,7 @@ use Rattle.wire.specs.Parts.{splice}
 use Rattle.acks.specs.declared.Tracker.{Tracker}
 use Rattle.acks.specs.declared.AckInfo.{AckInfo}
 use Rattle.acks.specs.Window.{falling, window, keep}
+use Rattle.acks.specs.History.{highestOf, among}
 use Rattle.acks.specs.Tracking.{mark}
 use Rattle.acks.specs.Runs.{runs, flags, named, wholePairs, runSum}
 use Rattle.acks.specs.Reporting.{padded, refusedReport, silent, reportOfRuns, reportOf, ackInfo, pairBytes}
@@ -18,7 +19,7 @@ use Rattle.acks.proofs.RunLengths.{flags-runs}
 use Rattle.acks.proofs.Falling.{named-keep, length-falling, map-falling, window-size, length-keep}
 use Rattle.acks.proofs.Counting.{runs-count, runs-short, length-flags, whole-even}
 use Rattle.acks.proofs.Answers.{is-0}
-use Rattle.acks.proofs.Tracks.{Tracks}
+use Rattle.acks.proofs.Tracks.{Tracks, Follows}
 
 -- what holds of a report that is not refused
 pub record Faithful (top : ℕ) (got : ℕ → Bool) (r : AckInfo) : Type 0 where
@@ -97,6 +98,17 @@ report-is {top} {got} {t} w =
   where
     inside : (x : ℕ) → x ≤ top - 1 → top - 1 < x + min top 254 → mark (t .marks) x ≡ got x
     inside x le lt = w .inside x (omega arith) (omega arith)
+
+-- so a report of it that is not refused is a faithful one
+pub told : {l : List ℕ} {t : Tracker} → Follows l t → ackInfo t .number ≡ 0 → Faithful (highestOf l) (among l) (ackInfo t)
+unfolding refusedReport
+told {l} {t} f given = go (among l (highestOf l)) refl
+  where
+    go : (b : Bool) → among l (highestOf l) ≡ b → Faithful (highestOf l) (among l) (ackInfo t)
+    go true e = rw (report-is (f .tracks)) (faithful (highestOf l) (among l) e)
+    go false e =
+        let q : ackInfo t .number ≡ 41 = ap (λ (x : AckInfo). x .number) (report-is (f .tracks) ∙ unheard (highestOf l) (among l) e) in
+        absurd (omega (arith, q, given))
 
 -- a report, expanded into a list of at least 255 places
 pub expands : (top : ℕ) (got : ℕ → Bool) (r : AckInfo) → Faithful top got r → (list : List ℕ) → 255 ≤ length list →

@@ -19,3 +19,6 @@ pub mod InPlace
 pub mod Handed
 pub mod Sent
 pub mod Refused
+pub mod Naming
+pub mod Settling
+pub mod Members

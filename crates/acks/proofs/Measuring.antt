@@ -1,13 +1,14 @@
 -- Measuring an acknowledgement: what the pairs before a place came to. Assumes nothing.
-use mathlib.Core.Path.{_≡_, refl, ap, _∙_}
-use mathlib.Core.Bool.{false}
+use mathlib.Core.Path.{_≡_, refl, sym, ap, _∙_}
+use mathlib.Core.Bool.{true, false, not, false≢true}
 use mathlib.Core.List.{List, _∷_}
 use Prim.Native.Nat.{ℕ, _+_, _-_, _≤_, _<_}
 use native.Mathlib.Omega.{arith}
 use lib.ListN.{length, drop, getD, length-append}
 use Rattle.acks.specs.Window.{falling}
 use Rattle.acks.specs.Runs.{flags, wholePairs, runSum}
-use Rattle.acks.specs.Expanding.{ackNumbers}
+use Rattle.acks.specs.Expanding.{ackNumbers, goesBelow}
+use Rattle.acks.proofs.Answers.{below-44, above-44}
 use Rattle.acks.proofs.Falling.{length-falling}
 use Rattle.acks.proofs.Named.{left, left-step, left-end, total-step, total-end, length-named, numbers-start}
 
@@ -52,7 +53,21 @@ summed-step through count ps sum names i nack ack s h l a p b q =
           length-named (0 - getD ps i 0 - getD ps (i + 1) 0) 0 (flags false (wholePairs (drop (i + 2) ps))),
         )
 
-pub summed-end : (through count : ℕ) (ps : List ℕ) (sum names i : ℕ) → Summed through count ps sum names i → length ps ≤ i + 1 →
+summed-end : (through count : ℕ) (ps : List ℕ) (sum names i : ℕ) → Summed through count ps sum names i → length ps ≤ i + 1 →
     (sum ≡ count + runSum (wholePairs ps)) × (names ≡ length (ackNumbers through count ps))
 summed-end through count ps sum names i s h =
     (omega (arith, s .sums, total-end ps i h), omega (arith, s .names-are, ap length (left-end ps i 0 h)))
+
+-- what measuring answers: the numbers stay at 0 or above, or they go below
+module _ (through count : ℕ) (ps : List ℕ) (sum names i : ℕ) (s : Summed through count ps sum names i) where
+  pub measured : length ps ≤ i + 1 → sum ≤ through →
+      (true ≡ not (goesBelow through count ps))
+      × (true ≡ true → (names ≡ length (ackNumbers through count ps)) × (through - sum + (count + runSum (wholePairs ps)) ≡ through))
+  measured h g =
+      let e = summed-end through count ps sum names i s h in
+      (ap not (sym (above-44 through count ps (omega arith))), λ q. (e .1, omega arith))
+
+  pub beyond : (n low : ℕ) → through < sum →
+      (false ≡ not (goesBelow through count ps))
+      × (false ≡ true → (n ≡ length (ackNumbers through count ps)) × (low + (count + runSum (wholePairs ps)) ≡ through))
+  beyond n low g = (ap not (sym (below-44 through count ps (omega (arith, s .sums)))), λ q. absurd (false≢true q))

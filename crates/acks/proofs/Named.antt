@@ -13,7 +13,7 @@ use Rattle.acks.specs.Expanding.{ackNumbers}
 use Rattle.acks.proofs.Falling.{length-falling}
 
 -- ---- whole pairs
-whole-two : (a b : ℕ) (r : List ℕ) → wholePairs (a ∷ (b ∷ r)) ≡ a ∷ (b ∷ wholePairs r)
+pub whole-two : (a b : ℕ) (r : List ℕ) → wholePairs (a ∷ (b ∷ r)) ≡ a ∷ (b ∷ wholePairs r)
 unfolding wholePairs
 whole-two a b r =
     let e : suc (suc (length r)) - suc (suc (length r)) % 2 ≡ suc (suc (length r - length r % 2)) = omega arith in
@@ -25,7 +25,7 @@ whole-short [] h = refl
 whole-short (a ∷ []) h = refl
 whole-short (a ∷ (b ∷ l)) h = absurd (omega arith)
 
-at-pair : (ps : List ℕ) (i : ℕ) → i + 1 < length ps → drop i ps ≡ getD ps i 0 ∷ (getD ps (i + 1) 0 ∷ drop (i + 2) ps)
+pub at-pair : (ps : List ℕ) (i : ℕ) → i + 1 < length ps → drop i ps ≡ getD ps i 0 ∷ (getD ps (i + 1) 0 ∷ drop (i + 2) ps)
 at-pair ps i h =
     let p : i < length ps = omega arith in
     let q : suc i < length ps = omega arith in

@@ -21,7 +21,7 @@ use Rattle.acks.specs.Reporting.{refusedReport, silent, pairBytes, repor
 use Rattle.acks.specs.Recorded.{trackerSize, trackerShort, trackerAt, registerThere, recordAfter, duplicateThere, reportThere}
 use Rattle.acks.specs.AckBlocks.{ackBlock, ackWriting, ackRoom}
 use Rattle.acks.specs.Runs.{wholePairs, runSum}
-use Rattle.acks.specs.Expanding.{ackNumbers, expandAnswer, expandOf, listAfter}
+use Rattle.acks.specs.Expanding.{ackNumbers, expandAnswer, goesBelow, expandOf, listAfter}
 use Rattle.acks.proofs.Faithful.{faithful, unheard}
 use Rattle.acks.proofs.Recording as Recording
 
@@ -117,14 +117,19 @@ ack-leaves r room m = go (eqb (r .number) 0)
     go true e = Blocks.write-leaves (ackBlock r) (pairBytes r) room m e
     go false e = refl
 
+-- a report's pairs are whole, and at most 127
+pub report-paired : (t : Tracker) → ackInfo t .number ≡ 0 → (length (pairBytes (ackInfo t)) % 2 ≡ 0) × (length (pairBytes (ackInfo t)) ≤ 254)
+unfolding ackInfo
+report-paired t z = is-paired (t .highest) (mark (t .marks)) z
+
 paired : (r : List ℕ) → reportThere r .number ≡ 0 → (length (pairBytes (reportThere r)) % 2 ≡ 0) × (length (pairBytes (reportThere r)) ≤ 254)
-unfolding reportThere refusedReport ackInfo
+unfolding reportThere refusedReport
 paired r = by (trackerShort r)
   where
     by : (b : Bool) → cond b (refusedReport 59) (ackInfo (trackerAt r)) .number ≡ 0
         → (length (pairBytes (cond b (refusedReport 59) (ackInfo (trackerAt r)))) % 2 ≡ 0) × (length (pairBytes (cond b (refusedReport 59) (ackInfo (trackerAt r)))) ≤ 254)
     by true z = absurd (omega arith)
-    by false z = is-paired (trackerAt r .highest) (mark (trackerAt r .marks)) z
+    by false z = report-paired (trackerAt r) z
 
 -- 30, 41 or 59 where the block of a record's report is not written
 pub ack-numbers : (r : List ℕ) (room m : ℕ) → ackWriting (reportThere r) room ≡ Wrote.Refused m → OneOf (30 ∷ 41 ∷ 59 ∷ []) m
@@ -155,7 +160,7 @@ unfolding expandOf listAfter
 expand-leaves through count ps list ne = rw (ne-eqb (expandAnswer through count ps (length list)) 0 ne)
 
 pub expand-numbers : (through count : ℕ) (ps : List ℕ) (room : ℕ) → (expandOf through count ps room .number ≡ 0 → ⊥) → OneOf (44 ∷ 46 ∷ []) (expandOf through count ps room .number)
-unfolding expandOf expandAnswer
+unfolding expandOf expandAnswer goesBelow
 expand-numbers through count ps room = go (ltb through (count + runSum (wholePairs ps))) (ltb room (length (ackNumbers through count ps)))
   where
     go : (a b : Bool) → (_≡_ {A = ℕ} (cond a 44 (cond b 46 0)) 0 → ⊥) → OneOf (44 ∷ 46 ∷ []) (cond a 44 (cond b 46 0))

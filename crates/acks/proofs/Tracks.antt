@@ -157,7 +157,7 @@ pub record Follows (l : List ℕ) (t : Tracker) : Type 0 where
   pub tracks : Tracks (highestOf l) (among l) t
   pub zeroth : 0 < length l → among l 0 ≡ true
 
-highest-receive : (l : List ℕ) (n : ℕ) → highestOf (receive l n) ≡ max (highestOf l) n
+pub highest-receive : (l : List ℕ) (n : ℕ) → highestOf (receive l n) ≡ max (highestOf l) n
 unfolding receive highestOf
 highest-receive [] n = omega arith
 highest-receive (k ∷ l) n = omega arith

@@ -1,5 +1,5 @@
 -- What an acknowledgement names, and what expanding it into a lent list does.
-use mathlib.Core.Bool.{true, cond}
+use mathlib.Core.Bool.{Bool, true, cond}
 use mathlib.Core.List.{List, _∷_}
 use Prim.Native.Nat.{ℕ, _+_}
 use lib.Dec.{ltb, eqb}
@@ -12,10 +12,14 @@ use Rattle.acks.specs.declared.Expanded.{Expanded}
 unfoldable pub ackNumbers : ℕ → ℕ → List ℕ → List ℕ
 ackNumbers through count pairs = named through (true ∷ flags true (count ∷ wholePairs pairs))
 
--- 44 where count and pairs, nacks included, go below 0; 46 where the list has less room than there are numbers
+-- whether count and pairs, nacks included, go below 0
+unfoldable pub goesBelow : ℕ → ℕ → List ℕ → Bool
+goesBelow through count pairs = ltb through (count + runSum (wholePairs pairs))
+
+-- 44 where they do; 46 where the list has less room than there are numbers
 unfoldable pub expandAnswer : ℕ → ℕ → List ℕ → ℕ → ℕ
 expandAnswer through count pairs room =
-    cond (ltb through (count + runSum (wholePairs pairs))) 44 (cond (ltb room (length (ackNumbers through count pairs))) 46 0)
+    cond (goesBelow through count pairs) 44 (cond (ltb room (length (ackNumbers through count pairs))) 46 0)
 
 -- what expanding answers, into a list of so much room
 unfoldable pub expandOf : ℕ → ℕ → List ℕ → ℕ → Expanded

@@ -1,32 +1,34 @@
 // What an acknowledgement names: the through number, count numbers below it, then each pair skips and names.
 ghost use mathlib.Core.Path.{_≡_};
-ghost use mathlib.Core.Bool.{true, false};
+ghost use mathlib.Core.Bool.{true, false, not};
 ghost use Prim.Native.Nat.{_+_, _-_, _≤_, _<_};
-ghost use lib.Dec.{leb};
 ghost use lib.ListN.{length, getD};
 ghost use Rattle.wire.specs.Parts.{part, splice};
 ghost use Rattle.acks.specs.Window.{falling};
 ghost use Rattle.acks.specs.Runs.{named, flags, wholePairs, runSum};
-ghost use Rattle.acks.specs.Expanding.{ackNumbers, expandOf, listAfter};
+ghost use Rattle.acks.specs.Expanding.{ackNumbers, goesBelow, expandOf, listAfter};
 use acks::Expanded;
 use blocks::Part;
 use wire::shorter;
 
-struct Measured {
-    within: bool,
-    names: usize,
+// Whether count and pairs stay at 0 or above; if so, how many numbers they name and the lowest that they speak of, else 0 and 0.
+pub struct Measured {
+    pub within: bool,
+    pub names: usize,
+    pub lowest: u32,
 }
 
-fn byte(s: &[u8], i: usize) -> u32
+// A byte of the pairs, as a number that others are added to.
+pub fn byte(s: &[u8], i: usize) -> u32
     requires { ⌜ i < length (now s) ⌝ }
     ensures { λ r. ⌜ (r ≡ getD (now (s .entry)) i 0) × (r < 256) ⌝ }
 {
     s[i] as u32
 }
 
-// Whether count and pairs stay at 0 or above, and if so how many numbers they name.
-fn measure(through: u32, count: u8, pairs: &[u8]) -> Measured
-    ensures { λ r. ⌜ (r .within ≡ leb (count + runSum (wholePairs (now (pairs .entry)))) through) × (r .within ≡ true → r .names ≡ length (ackNumbers through count (now (pairs .entry)))) ⌝ }
+// What an acknowledgement comes to, without its numbers: 44 can be given where there is no list.
+pub fn measure(through: u32, count: u8, pairs: &[u8]) -> Measured
+    ensures { λ r. ⌜ (r .within ≡ not (goesBelow through count (now (pairs .entry)))) × (r .within ≡ true → (r .names ≡ length (ackNumbers through count (now (pairs .entry)))) × (r .lowest + (count + runSum (wholePairs (now (pairs .entry)))) ≡ through)) ⌝ }
 {
     let limit = through as u64;
     let mut sum = count as u64;
@@ -37,6 +39,7 @@ fn measure(through: u32, count: u8, pairs: &[u8]) -> Measured
             return Measured {
                 within: false,
                 names: 0,
+                lowest: 0,
             };
         }
         let nack = byte(pairs, i);
@@ -45,9 +48,17 @@ fn measure(through: u32, count: u8, pairs: &[u8]) -> Measured
         names += ack as usize;
         i += 2;
     }
+    if sum <= limit {
+        return Measured {
+            within: true,
+            names,
+            lowest: through - sum as u32,
+        };
+    }
     Measured {
-        within: sum <= limit,
-        names,
+        within: false,
+        names: 0,
+        lowest: 0,
     }
 }
 

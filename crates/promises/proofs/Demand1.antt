@@ -10,6 +10,7 @@ use Rattle.header.proofs.Refused as Header
 use Rattle.blocks.proofs.Refused as Blocks
 use Rattle.blocks_listing.proofs.Refused as Listing
 use Rattle.acks.proofs.Refused as Acks
+use Rattle.sender.proofs.Refused as Sender
 use Rattle.reassembly.specs.Calls.{Lent, After, after, firstCall, followOnCall}
 use Rattle.reassembly.specs.Careful.{Careful}
 use Rattle.reassembly.proofs.Refusals.{careful-first, careful-follow-on}
@@ -45,6 +46,7 @@ demand1 =
       asked = (Acks.tracker-report, Acks.report-numbers, Acks.duplicate-numbers);
       ack-written = (Acks.ack-numbers, Acks.ack-leaves);
       ack-expanded = λ through count pairs list h. (Acks.expand-numbers through count pairs (length list) h, Acks.expand-leaves through count pairs list h);
+      sender-called = λ rec c h. let z = Sender.call-leaves rec c h in (Sender.call-numbers rec c h, z .0, z .1, z .2);
       store-renewed = λ rec h. (Store.renew-numbers rec h, Store.renew-leaves rec h);
       first-taken = λ x l second v h. (
         others 50 (52 ∷ 53 ∷ 54 ∷ 55 ∷ 56 ∷ 57 ∷ 59 ∷ []) _ h (Store.first-numbers x l second v),

@@ -5,8 +5,9 @@ use mathlib.Core.List.{List, [], _∷_}
 use Prim.Native.Nat.{ℕ, suc}
 use native.Mathlib.Omega.{arith}
 use Rattle.header.specs.declared.Answer.the-variants as Header
-use Rattle.wire.specs.Parts.{part}
+use Rattle.wire.specs.Parts.{part, splice}
 use Rattle.wire.specs.Numbers.{little, big, bigAt}
+use Rattle.wire.proofs.Slices.{splice-none}
 use Rattle.blocks.specs.declared.Read.the-variants as Got
 use Rattle.blocks.specs.Extent.{followOn, takenAt, extentAt}
 use Rattle.blocks.specs.Reading.{blockAt, readAt}
@@ -27,6 +28,9 @@ use Rattle.numbers_outcomes.specs.Outcomes.{writeOutcome}
 use Rattle.numbers_outcomes.specs.Trackers.{newAnswer, newRecord, reportNumbers}
 use Rattle.numbers_outcomes.specs.Deliveries.{deliveredAt, deliverCall}
 use Rattle.numbers_outcomes.proofs.Refused as Calls
+use Rattle.sender.specs.Sender.{resend}
+use Rattle.sender.specs.Recorded.{senderShort, lentAnswer, newSenderRecord, answerThere, settledThere, packetNumbers}
+use Rattle.sender.proofs.Refused as Sender
 use Rattle.promises.specs.Demand1.{Refuses, StoreRefuses}
 use Rattle.promises.specs.Demand1Calls.{Demand1Calls}
 use Rattle.promises.proofs.Demand1.{demand1}
@@ -65,6 +69,9 @@ demand1-calls =
       new-tracker = Calls.new-stays;
       report = Calls.report-stays;
       ack-room = Calls.ack-room-stays;
+      new-sender = Sender.new-stays;
+      settled-list = λ rec c list h. ap (splice list 0) (demand1 .sender-called rec c h .3) ∙ splice-none list 0;
+      packet-row = λ rec k out h. (Sender.new-stays rec h .0, Sender.row-stays rec k out h);
       told = told;
     }
 
@@ -106,6 +113,24 @@ tracker-stays = demand1-calls .new-tracker three (is-refusal (newAnswer three) 5
 pub report-refused : reportNumbers silent three ≡ three
 unfolding refusedReport
 report-refused = demand1-calls .report silent three three (is-refusal 41 40 refl) .0
+
+-- three bytes are no sender's record: 59
+pub short-sender : lentAnswer three ≡ 59
+unfolding lentAnswer senderShort
+short-sender = refl
+
+pub sender-stays : newSenderRecord three ≡ three
+sender-stays = demand1-calls .new-sender three (is-refusal (lentAnswer three) 58 short-sender) .1
+
+pub row-stays : packetNumbers three 0 three ≡ three
+row-stays = demand1-calls .packet-row three 0 three (is-refusal (lentAnswer three) 58 short-sender) .1
+
+pub short-resend : answerThere three (resend 1 7) ≡ 59
+unfolding answerThere senderShort
+short-resend = refl
+
+pub settled-stays : splice three 0 (settledThere three (resend 1 7)) ≡ three
+settled-stays = demand1-calls .settled-list three (resend 1 7) three (is-refusal (answerThere three (resend 1 7)) 58 short-resend)
 
 -- the block at 3, whose piece the store refuses with 51, on every record and room that are long enough: the place is 3
 abbrev number-0 : List ℕ

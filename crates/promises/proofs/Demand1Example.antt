@@ -26,7 +26,7 @@ use Rattle.acks.specs.Reporting.{refusedReport, reportOf, ackInfo}
 use Rattle.acks.specs.Recorded.{trackerSize, trackerShort, trackerAt, registerThere, recordAfter, reportThere}
 use Rattle.acks.specs.AckBlocks.{ackWriting, ackRoom}
 use Rattle.acks.specs.Runs.{wholePairs, runSum}
-use Rattle.acks.specs.Expanding.{expandAnswer, expandOf, listAfter}
+use Rattle.acks.specs.Expanding.{expandAnswer, goesBelow, expandOf, listAfter}
 use Rattle.acks.proofs.Cases.{case-j}
 use Rattle.reassembly.specs.declared.Label.{Label}
 use Rattle.reassembly.specs.Calls.{lent, After, after, bare, lentShort, badSize, offNumber, firstCall, followOnCall, renewal, renewed}
@@ -124,7 +124,7 @@ ack-room-stays = demand1 .ack-written .1 (reportThere (replicate trackerSize 0))
 
 -- four numbers below 3: 44
 pub below-0 : expandOf 3 4 [] 2 .number ≡ 44
-unfolding expandOf expandAnswer wholePairs runSum
+unfolding expandOf expandAnswer goesBelow wholePairs runSum
 below-0 = refl
 
 pub numbers-stay : listAfter 3 4 [] two ≡ two

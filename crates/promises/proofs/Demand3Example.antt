@@ -7,7 +7,7 @@ use native.Mathlib.Omega.{arith}
 use lib.ListN.{length, getD, drop, replicate}
 use Rattle.wire.specs.Parts.{same}
 use Rattle.reassembly.specs.Sizes.{messageSize, mostRemembered}
-use Rattle.reassembly.specs.Series.{series}
+use Rattle.wire.specs.Series.{series}
 use Rattle.reassembly.specs.Memory.{Memory, remembers, remember, isDue, forget}
 use Rattle.reassembly.specs.Store.{Store, empty, newStore, idOf, numberOf, finalOf, pieceBytes, findId, findFree, slotOf, messageOr, plus, badLength, badNumber, repeats, clashes, tooMuch, complete, rebuiltOf, tooShort, slotsRefuse, answer, slotsStep, step, sweptOne, slotsSweep}
 use Rattle.promises.specs.Demand3.{Cut, Within, noCut, Event, deliver, sweepAt, begun, done, isOpen, marked, untouched, tallied, start, note, Schedule, Said, act, saidOf, said, storeAfter, Fulfilled}

@@ -8,6 +8,12 @@ pub mod Demand1Calls
 pub mod Demand1Example
 pub mod Demand2
 pub mod Demand2Calls
+pub mod Partition
+pub mod PartitionCalls
+pub mod Settled
+pub mod SettledCalls
+pub mod SettledExample
+pub mod SettledCallsExample
 pub mod Demand3Marks
 pub mod Demand3Rebuilt
 pub mod Demand3Slots

@@ -33,6 +33,8 @@ use Rattle.acks.specs.Reporting.{ackInfo}
 use Rattle.acks.specs.Recorded.{registerThere, recordAfter, duplicateThere, reportThere}
 use Rattle.acks.specs.AckBlocks.{ackWriting, ackRoom}
 use Rattle.acks.specs.Expanding.{expandOf, listAfter}
+use Rattle.sender.specs.Sender.{Call, refusalsOf}
+use Rattle.sender.specs.Recorded.{answerThere, givenThere, senderAfter, settledThere}
 use Rattle.reassembly.specs.declared.Label.{Label}
 use Rattle.reassembly.specs.Calls.{Lent, After, after, firstCall, followOnCall, renewal, renewed}
 use Rattle.messages.specs.Delivery.{deliveryWith, nothing, delivered}
@@ -106,6 +108,12 @@ ExpandRefused =
     (through count : ℕ) (pairs list : List ℕ) → Refuses (expandOf through count pairs (length list) .number)
     → OneOf (44 ∷ 46 ∷ []) (expandOf through count pairs (length list) .number) × (listAfter through count pairs list ≡ list)
 
+-- the sender's calls, on a record of any bytes: a send 59, 71 or 70, a resend 59, 73 or 71, an ack 59, 44 or 72; the record stays, no number is given out, and none is settled
+abbrev pub SenderRefused : Type 0
+SenderRefused =
+    (rec : List ℕ) (c : Call) → Refuses (answerThere rec c)
+    → OneOf (refusalsOf c) (answerThere rec c) × (senderAfter rec c ≡ rec) × (givenThere rec c ≡ 0) × (settledThere rec c ≡ [])
+
 -- a new store: 59, and the record stays
 abbrev pub StoreNewRefused : Type 0
 StoreNewRefused = (rec : List ℕ) → Refuses (renewal rec) → (renewal rec ≡ 59) × (renewed rec ≡ rec)
@@ -145,6 +153,7 @@ pub record Demand1 : Type 0 where
   pub asked : AskRefused
   pub ack-written : AckBlockRefused
   pub ack-expanded : ExpandRefused
+  pub sender-called : SenderRefused
   pub store-renewed : StoreNewRefused
   pub first-taken : FirstRefused
   pub follow-on-taken : FollowOnRefused

@@ -4,6 +4,7 @@ use mathlib.Core.List.{List, [], _∷_}
 use Prim.Native.Nat.{ℕ}
 use lib.ListN.{length}
 use types.Run.{OneOf}
+use Rattle.wire.specs.Parts.{splice}
 use Rattle.header.specs.declared.Answer.{Answer}
 use Rattle.blocks.specs.declared.Read.{Read}
 use Rattle.blocks_listing.specs.declared.Entry.{Entry}
@@ -17,6 +18,8 @@ use Rattle.numbers.specs.BlockNumbers.{readNumbers}
 use Rattle.numbers.specs.BlockFields.{writingBy, roomBy}
 use Rattle.numbers_outcomes.specs.Trackers.{newAnswer, newRecord, reportNumbers, reportPairs}
 use Rattle.numbers_outcomes.specs.Deliveries.{deliveredAt, deliverCall}
+use Rattle.sender.specs.Sender.{Call}
+use Rattle.sender.specs.Recorded.{lentAnswer, newSenderRecord, answerThere, settledThere, packetNumbers}
 use Rattle.promises.specs.Demand1.{Refuses, StoreRefuses}
 use Rattle.reassembly.specs.Calls.{Lent}
 
@@ -38,6 +41,12 @@ pub record Demand1Calls : Type 0 where
   pub report : (r : AckInfo) (out pairs : List ℕ) → Refuses (r .number) → (reportNumbers r out ≡ out) × (reportPairs r pairs ≡ pairs)
   -- strawhub_tracker_ack_block, its room
   pub ack-room : (r : AckInfo) (room : List ℕ) → Refuses (writeOutcome (ackWriting r (length room)) .number) → ackRoom r room ≡ room
+  -- strawhub_sender_new: 59, and the record stays
+  pub new-sender : (rec : List ℕ) → Refuses (lentAnswer rec) → (lentAnswer rec ≡ 59) × (newSenderRecord rec ≡ rec)
+  -- strawhub_sender_ack, its list of settled numbers
+  pub settled-list : (rec : List ℕ) (c : Call) (list : List ℕ) → Refuses (answerThere rec c) → splice list 0 (settledThere rec c) ≡ list
+  -- strawhub_sender_outstanding: 59, and its three numbers stay
+  pub packet-row : (rec : List ℕ) (k : ℕ) (out : List ℕ) → Refuses (lentAnswer rec) → (lentAnswer rec ≡ 59) × (packetNumbers rec k out ≡ out)
   -- strawhub_block_deliver: the number is that of what was received, the value the block's place, whether the block or the store refused; its six numbers and all else that was lent stay
   pub told :
       (s : List ℕ) (at : ℕ) (x : Lent) (second : ℕ) (told : List ℕ) → StoreRefuses (deliverCall s at x second told .outcome .number)

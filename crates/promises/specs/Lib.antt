@@ -6,6 +6,10 @@ pub mod Demand1
 pub mod Demand1Calls
 pub mod Demand2
 pub mod Demand2Calls
+pub mod Partition
+pub mod PartitionCalls
+pub mod Settled
+pub mod SettledCalls
 pub mod Demand3
 pub mod NoGhost
 pub mod Demand3Calls

@@ -7,10 +7,10 @@ use Prim.Native.Nat.{ℕ, zero, suc, _+_, _≤_, _<_}
 use native.Mathlib.Omega.{arith}
 use lib.ListN.{length}
 use Rattle.reassembly.specs.Sizes.{mostRemembered, recordSize}
-use Rattle.reassembly.specs.Series.{series}
+use Rattle.wire.specs.Series.{series}
 use Rattle.reassembly.specs.Memory.{Finished, Memory, isDue, forget}
 use Rattle.reassembly.specs.Remembered.{rememberedCount, finishedAt, memoryOf, withCount, movedTo, Sifted, sifted, siftedOne, siftedTo, forgottenIn}
-use Rattle.reassembly.proofs.Series.{series-same, series-more}
+use Rattle.wire.proofs.Series.{series-same, series-more}
 use Rattle.reassembly.proofs.Memories.{forget-more}
 use Rattle.reassembly.proofs.Fronts.{Behind, behind-none, behind-then}
 use Rattle.reassembly.proofs.Remembered.{count-most, blank, memory-is, saved-count, saved-same, saved-behind, moved-behind, moved-same, moved-other}

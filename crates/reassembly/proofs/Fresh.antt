@@ -10,7 +10,7 @@ use lib.ListN.{length, getD, replicate}
 use borrow.Author.Tests.{ne-eqb, le-ltb, ltb-true}
 use Rattle.wire.specs.Parts.{part}
 use Rattle.wire.proofs.Parts.{part-none}
-use Rattle.reassembly.specs.Series.{series}
+use Rattle.wire.specs.Series.{series}
 use Rattle.reassembly.specs.Sizes.{recordSize}
 use Rattle.reassembly.specs.declared.Entry.{Entry}
 use Rattle.reassembly.specs.declared.Label.{Label}
@@ -18,7 +18,7 @@ use Rattle.reassembly.specs.Store.{Piece, idOf, Message, isHeld, total, 
 use Rattle.reassembly.specs.Record.{cleared, roomOf, pieceAt}
 use Rattle.reassembly.specs.Judge.{pick, misfits, moreOf, grownBy, isComplete, newHead}
 use Rattle.reassembly.specs.Stands.{tableAt, messageWith, heldOf, Fine, labelOf}
-use Rattle.reassembly.proofs.Series.{series-same}
+use Rattle.wire.proofs.Series.{series-same}
 use Rattle.reassembly.proofs.Written.{cleared-entry}
 use Rattle.reassembly.proofs.Answers.{label-id}
 

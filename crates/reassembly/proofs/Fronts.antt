@@ -13,7 +13,7 @@ use Rattle.reassembly.specs.declared.Head.{Head}
 use Rattle.reassembly.specs.Record.{headOf, headAt, entryOf, entryPlace, entryAt}
 use Rattle.reassembly.specs.Slots.{isFree}
 use Rattle.reassembly.specs.Stands.{slotAt, slotsOf, Fine, SlotsMade}
-use Rattle.reassembly.proofs.Series.{series-same}
+use Rattle.wire.proofs.Series.{series-same}
 use Rattle.reassembly.proofs.Others.{fine-same, slot-same, free-same}
 
 -- A change behind the tables: the record is as long as it was, and its heads and tables are the same.

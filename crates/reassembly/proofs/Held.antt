@@ -11,9 +11,9 @@ use lib.Seq.{take-suc, getD-drop, length-take-le}
 use borrow.Author.Tests.{eq-eqb, ne-eqb, eqb-true, eqb-false, ltb-true, ltb-false}
 use Rattle.reassembly.specs.Store.{isHeld, allHeld, someHeld, joined}
 use Rattle.reassembly.specs.Joining.{joinedBelow}
-use Rattle.reassembly.specs.Series.{series}
+use Rattle.wire.specs.Series.{series}
 use Rattle.reassembly.specs.Stands.{heldOf}
-use Rattle.reassembly.proofs.Series.{length-series, getD-series}
+use Rattle.wire.proofs.Series.{length-series, getD-series}
 
 -- a number is held exactly if it has bytes
 pub held-length : (x : List ℕ) → isHeld x ≡ not (eqb (length x) 0)

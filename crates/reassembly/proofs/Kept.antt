@@ -25,7 +25,7 @@ use Rattle.reassembly.specs.Stands.{tableAt, messageWith, heldOf, Fine}
 use Rattle.reassembly.proofs.Table.{total-set, held-of-length}
 use Rattle.reassembly.proofs.Fields.{HeadFits}
 use Rattle.reassembly.proofs.Joined.{length-room, le-inside, inside-length, none-all}
-use Rattle.reassembly.proofs.Series.{length-series, getD-series, series-set}
+use Rattle.wire.proofs.Series.{length-series, getD-series, series-set}
 use Rattle.reassembly.proofs.Held.{held-length, not-held, held-le, held-set, all-upto}
 use Rattle.reassembly.proofs.Written.{length-head, head-same, head-entry, length-entry, entry-same, entry-beside, kept-room}
 

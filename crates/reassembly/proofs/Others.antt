@@ -20,7 +20,7 @@ use Rattle.reassembly.specs.Judge.{noHead}
 use Rattle.reassembly.specs.Calls.{keptRec, keptRoom}
 use Rattle.reassembly.specs.Stands.{tableAt, messageWith, slotAt, slotsOf, Fine, SlotsMade}
 use Rattle.reassembly.proofs.Fields.{HeadFits}
-use Rattle.reassembly.proofs.Series.{series-same, series-set}
+use Rattle.wire.proofs.Series.{series-same, series-set}
 use Rattle.reassembly.proofs.Written.{head-same, head-other, head-entry, length-entry, entry-other, entry-head, cleared-head, cleared-other, kept-other}
 
 -- the slots other than i have the same heads, entries and room

@@ -12,7 +12,7 @@ use borrow.Author.Tests.{ne-eqb, lt-ltb, le-ltb, ltb-false, lt-leb}
 use Rattle.reassembly.specs.Sizes.{messageSize, roomSize, recordSize}
 use Rattle.reassembly.specs.declared.Head.{Head}
 use Rattle.reassembly.specs.declared.Label.{Label}
-use Rattle.reassembly.specs.Series.{series}
+use Rattle.wire.specs.Series.{series}
 use Rattle.reassembly.specs.Store.{Piece, pieceBytes, Message, Slots, Rebuilt, SlotsAnswer, isHeld, joined, plus, badLength, badNumber, repeats, clashes, tooMuch, complete, rebuiltOf, tooShort, slotsRefuse, answer}
 use Rattle.reassembly.specs.Record.{headAt, withHead, pieceAt}
 use Rattle.reassembly.specs.Slots.{isFree}
@@ -22,7 +22,7 @@ use Rattle.reassembly.specs.Calls.{lent, After, after, bare, keptRec, ke
 use Rattle.reassembly.specs.Stands.{tableAt, messageWith, slotAt, slotsOf, Fine, SlotsMade, labelOf, replyFor, laidOut}
 use Rattle.reassembly.proofs.Branches.{good-size}
 use Rattle.reassembly.proofs.Joined.{piece-given, piece-held}
-use Rattle.reassembly.proofs.Series.{series-set}
+use Rattle.wire.proofs.Series.{series-set}
 use Rattle.reassembly.proofs.Held.{joined-series}
 use Rattle.reassembly.proofs.Written.{length-head, length-kept}
 use Rattle.reassembly.proofs.Kept.{joins-inside, complete-is, kept-long, kept-head, kept-fine, table-kept}

@@ -14,10 +14,10 @@ use Rattle.wire.specs.Numbers.{little, littleAt, littleBytes}
 use Rattle.wire.proofs.Parts.{length-part, part-all, part-part, part-before, part-after, part-other, part-within, stores-splice}
 use Rattle.wire.proofs.Numbers.{length-little, little-back}
 use Rattle.reassembly.specs.Sizes.{mostRemembered, idsAt, idSize, secondsAt, secondSize, countAt, recordSize}
-use Rattle.reassembly.specs.Series.{series}
+use Rattle.wire.specs.Series.{series}
 use Rattle.reassembly.specs.Memory.{Finished, Memory, remember}
 use Rattle.reassembly.specs.Remembered.{rememberedCount, finishedAt, memoryOf, withCount, withFinished, movedTo, rememberedIn}
-use Rattle.reassembly.proofs.Series.{length-series, series-same, series-more, series-less}
+use Rattle.wire.proofs.Series.{length-series, series-same, series-more, series-less}
 use Rattle.reassembly.proofs.Fronts.{Behind, behind-then, behind-splice}
 
 -- what the k-th is read of

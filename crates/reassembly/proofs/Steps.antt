@@ -20,7 +20,8 @@ use Rattle.reassembly.specs.Remembered.{memoryOf}
 use Rattle.reassembly.specs.Judge.{sameLabel, again, misfits, grownBy, isComplete, newHead}
 use Rattle.reassembly.specs.Calls.{lent, after, bare, keptRec, keptRoom, putIn, compared, added, openedIn, openedNow}
 use Rattle.reassembly.specs.Stands.{tableAt, messageWith, slotAt, slotsOf, Fine, SlotsMade, labelOf}
-use Rattle.reassembly.proofs.Series.{length-series, getD-series, isNone, hasId, found-is, vacant-is, first-passes, free-none}
+use Rattle.wire.proofs.Series.{length-series, getD-series}
+use Rattle.reassembly.proofs.Searches.{isNone, hasId, found-is, vacant-is, first-passes, free-none}
 use Rattle.reassembly.proofs.Written.{length-cleared}
 use Rattle.reassembly.proofs.Kept.{never-outside, held-is}
 use Rattle.reassembly.proofs.Others.{Others, others-cleared}

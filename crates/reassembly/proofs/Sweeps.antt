@@ -13,7 +13,7 @@ use borrow.Author.Tests.{lt-ltb, le-ltb, ltb-true, ltb-false}
 use Rattle.wire.specs.Parts.{part, splice}
 use Rattle.wire.proofs.Parts.{part-within, length-splice}
 use Rattle.wire.proofs.Slices.{part-alike}
-use Rattle.reassembly.specs.Series.{series}
+use Rattle.wire.specs.Series.{series}
 use Rattle.reassembly.specs.Sizes.{roomSize, headSize, recordSize}
 use Rattle.reassembly.specs.Store.{Message, Slots, empty, sweptOne, slotsSweep}
 use Rattle.reassembly.specs.Record.{headOf, headAt, withHead}
@@ -21,7 +21,7 @@ use Rattle.reassembly.specs.Slots.{isFree}
 use Rattle.reassembly.specs.Judge.{noHead, isOld}
 use Rattle.reassembly.specs.Calls.{sweptAt, sweptTo}
 use Rattle.reassembly.specs.Stands.{messageWith, slotAt, slotsOf, SlotsMade}
-use Rattle.reassembly.proofs.Series.{series-same}
+use Rattle.wire.proofs.Series.{series-same}
 use Rattle.reassembly.proofs.Written.{length-head}
 use Rattle.reassembly.proofs.Others.{Others, others-head, slot-same, made-with, freed-slot, freed-free}
 

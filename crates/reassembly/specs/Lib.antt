@@ -1,6 +1,5 @@
 -- What the contracts of the store and of the crates below it cite.
 pub mod Sizes
-pub mod Series
 pub mod Ages
 pub mod Memory
 pub mod Store

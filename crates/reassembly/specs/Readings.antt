@@ -5,7 +5,7 @@ use mathlib.Core.List.{List, [], _∷_, _++_}
 use Prim.Native.Nat.{ℕ, zero, suc}
 use lib.ListN.{drop}
 use Rattle.reassembly.specs.Sizes.{messageSize, mostRemembered}
-use Rattle.reassembly.specs.Series.{series}
+use Rattle.wire.specs.Series.{series}
 use Rattle.reassembly.specs.Store.{first, follow, empty, newStore}
 use Rattle.reassembly.specs.Runs.{Call, piece, sweepAt, numbers, reached}
 

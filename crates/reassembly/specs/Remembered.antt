@@ -7,7 +7,7 @@ use lib.ListN.{getD}
 use Rattle.wire.specs.Parts.{part, splice}
 use Rattle.wire.specs.Numbers.{littleAt, littleBytes}
 use Rattle.reassembly.specs.Sizes.{mostRemembered, idsAt, idSize, secondsAt, secondSize, countAt}
-use Rattle.reassembly.specs.Series.{series}
+use Rattle.wire.specs.Series.{series}
 use Rattle.reassembly.specs.Memory.{Finished, Memory, isDue}
 
 -- how many are remembered; a count above 64, which no call leaves, is read as 64

@@ -11,7 +11,7 @@ use Rattle.reassembly.specs.Sizes.{roomSize, mostRemembered, recordSize}
 use Rattle.reassembly.specs.declared.Head.{Head}
 use Rattle.reassembly.specs.declared.Label.{Label}
 use Rattle.reassembly.specs.declared.Reply.{Reply}
-use Rattle.reassembly.specs.Series.{series}
+use Rattle.wire.specs.Series.{series}
 use Rattle.reassembly.specs.Store.{Piece, first, follow, Message, Slots, Store, newStore, Rebuilt, Answer, isHeld, total, sweep}
 use Rattle.reassembly.specs.Record.{headAt, entryAt, pieceAt}
 use Rattle.reassembly.specs.Slots.{isFree}

@@ -11,11 +11,11 @@ use borrow.Author.Tests.{lt-ltb, le-ltb}
 use Rattle.wire.specs.Parts.{part, splice}
 use Rattle.wire.proofs.Parts.{length-part, part-after}
 use Rattle.reassembly.specs.Sizes.{mostRemembered, idsAt, idSize, secondsAt, secondSize, countAt, recordSize}
-use Rattle.reassembly.specs.Series.{series}
+use Rattle.wire.specs.Series.{series}
 use Rattle.reassembly.specs.Ages.{longAgo}
 use Rattle.reassembly.specs.Memory.{remembers, isDue}
 use Rattle.reassembly.specs.Remembered.{rememberedCount, finishedAt, memoryOf, withCount, withFinished, movedTo, rememberedIn, Sifted, sifted, siftedOne, siftedTo, forgottenIn}
-use Rattle.reassembly.proofs.Series.{series-more}
+use Rattle.wire.proofs.Series.{series-more}
 use Rattle.reassembly.proofs.Memories.{remembers-more}
 use Rattle.reassembly.proofs.Remembered.{count-is}
 

@@ -8,3 +8,4 @@ pub mod Moving
 pub mod Lent
 pub mod Slices
 pub mod Zeros
+pub mod Series

@@ -1,13 +1,8 @@
-use Prim.Native.Nat.{_<_, _+_, _-_}
-use mathlib.Core.Path.{sym, ap}
-use mathlib.Core.Bool.{false≢true}
+use Prim.Native.Nat.{_-_}
 use lib.ListN.{length}
-use lib.Dec.{leb}
 use borrow.Author.Needs.{needs}
-use borrow.Author.Tests.{lt-leb}
 use native.Mathlib.Omega.{arith}
-use Rattle.acks.specs.Runs.{runSum, wholePairs}
-use Rattle.acks.proofs.Measuring.{Summed, summed-start, summed-step, summed-end}
+use Rattle.acks.proofs.Measuring.{Summed, summed-start, summed-step, measured, beyond}
 use Rattle.acks_expand.proofs.measure.Statement.{statement}
 use Rattle.acks_expand.proofs.measure.Tie as tie
 
@@ -32,8 +27,7 @@ returns : tie.Need-returns Inv-loop μ-loop
 returns c =
     let a = c .before .before .before .before .args in
     let i = c .before .before .loop in
-    let h : a .through < a .count + runSum (wholePairs (a .pairs .now)) = omega (arith, i .inv .sums) in
-    (sym (lt-leb _ _ h), λ q. absurd (false≢true q))
+    beyond (a .through) (a .count) (a .pairs .now) (i .sum) (i .names) (i .i) (i .inv) 0 0 (omega arith)
 
 byte-requires : tie.Need-byte-requires Inv-loop μ-loop
 byte-requires c κs = search needs
@@ -75,12 +69,23 @@ loop-again c =
     summed-step (a .through) (a .count) (a .pairs .now) (i .sum) (i .names) (i .i) (c .before .byte .result) (c .byte2 .result) (i .inv) (omega arith)
     (omega arith) (c .before .byte .ensures .0) (c .before .byte .ensures .1) (c .byte2 .ensures .0) (c .byte2 .ensures .1)
 
+cast-t18 : tie.Need-cast-t18 Inv-loop μ-loop
+cast-t18 c = search needs
+
+sub-t19 : tie.Need-sub-t19 Inv-loop μ-loop
+sub-t19 c = search needs
+
 returns-2 : tie.Need-returns-2 Inv-loop μ-loop
 returns-2 c =
-    let a = c .before .before .before .args in
-    let i = c .before .loop in
-    let e = summed-end (a .through) (a .count) (a .pairs .now) (i .sum) (i .names) (i .i) (i .inv) (omega arith) in
-    (ap (λ x. leb x (a .through)) (e .0), λ q. e .1)
+    let a = c .before .before .before .before .args in
+    let i = c .before .before .loop in
+    measured (a .through) (a .count) (a .pairs .now) (i .sum) (i .names) (i .i) (i .inv) (omega arith) (omega arith)
+
+returns-3 : tie.Need-returns-3 Inv-loop μ-loop
+returns-3 c =
+    let a = c .before .before .before .before .args in
+    let i = c .before .before .loop in
+    beyond (a .through) (a .count) (a .pairs .now) (i .sum) (i .names) (i .i) (i .inv) 0 0 (omega arith)
 
 pub measure-spec : {M : Type 1} → statement M
 measure-spec =
@@ -104,4 +109,7 @@ measure-spec =
     add-i
     loop-less
     loop-again
-    returns-2)
+    cast-t18
+    sub-t19
+    returns-2
+    returns-3)

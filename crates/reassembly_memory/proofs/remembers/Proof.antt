@@ -2,7 +2,7 @@ use native.Mathlib.Omega.{arith}
 use mathlib.Core.Path.{_≡_, refl}
 use Prim.Native.Nat.{_≤_, _-_}
 use Rattle.reassembly.specs.Sizes.{mostRemembered}
-use Rattle.reassembly.specs.Series.{series}
+use Rattle.wire.specs.Series.{series}
 use Rattle.reassembly.specs.Memory.{remembers}
 use Rattle.reassembly.specs.Remembered.{rememberedCount, finishedAt}
 use Rattle.reassembly_memory.proofs.Branches.{found-turn, found-end}
