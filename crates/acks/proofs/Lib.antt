@@ -20,5 +20,5 @@ pub mod Handed
 pub mod Sent
 pub mod Refused
 pub mod Naming
-pub mod Settling
+pub mod Noted
 pub mod Members

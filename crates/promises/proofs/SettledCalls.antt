@@ -27,7 +27,7 @@ use Rattle.acks.proofs.Histories.{registered-there, reported-there}
 use Rattle.acks.proofs.InPlace.{in-place, in-place-long, in-place-small}
 use Rattle.acks.proofs.Sent.{is-written, is-read, written-is-read, through-below}
 use Rattle.acks.proofs.Refused.{ack-numbers, report-paired}
-use Rattle.acks.proofs.Settling.{among-append}
+use Rattle.acks.proofs.Members.{among-append}
 use Rattle.numbers_outcomes.specs.Outcomes.{writeOutcome}
 use Rattle.sender.specs.Sender.{send, resend, ack}
 use Rattle.sender.specs.History.{givenOut, settled, anyOf}

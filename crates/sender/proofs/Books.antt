@@ -15,8 +15,7 @@ use Rattle.acks.specs.Expanding.{ackNumbers}
 use Rattle.acks.proofs.Falling.{length-keep}
 use Rattle.acks.proofs.Newest.{among-keep}
 use Rattle.acks.proofs.Ring.{split}
-use Rattle.acks.proofs.Settling.{among-append}
-use Rattle.acks.proofs.Members.{highest-append, below-highest, fewer-kept}
+use Rattle.acks.proofs.Members.{among-append, highest-append, below-highest, fewer-kept}
 use Rattle.sender.specs.Sizes.{mostOutstanding, lastNumber}
 use Rattle.sender.specs.Sender.{Packet, Call, send, resend, ack, numbersOf, those, without, resendsOf, nextPacket}
 use Rattle.sender.specs.History.{Books, opening, unclosed, outstandingIn, highestIn, answerIn, booked, entered, times, Rising}

@@ -20,7 +20,8 @@ use Rattle.acks.proofs.Answers.{above-44}
 use Rattle.acks.proofs.Faithful.{Faithful, told}
 use Rattle.acks.proofs.Histories.{registered-is}
 use Rattle.acks.proofs.Newest.{among-keep}
-use Rattle.acks.proofs.Settling.{among-append, received-new, highest-noted, register-last, packets-last}
+use Rattle.acks.proofs.Members.{among-append}
+use Rattle.acks.proofs.Noted.{received-new, highest-noted, register-last, packets-last}
 use Rattle.acks.proofs.Tracks.{Follows, follows, follows-step}
 use Rattle.sender.specs.Sender.{Call, send, resend, ack, numbersOf, answerBy, called}
 use Rattle.sender.specs.History.{books, settled, senderBy}

@@ -11,7 +11,7 @@ use Rattle.wire.proofs.Tests.{and-both}
 use Rattle.acks.specs.Window.{keep}
 use Rattle.acks.specs.History.{among}
 use Rattle.acks.proofs.Newest.{among-keep}
-use Rattle.acks.proofs.Settling.{among-append}
+use Rattle.acks.proofs.Members.{among-append}
 use Rattle.sender.specs.Sender.{Packet, numbersOf, those, without, resendsOf}
 use Rattle.sender.specs.History.{times, Rising}
 

@@ -1,6 +1,6 @@
--- Laws of numbers and histories that a list of sent packets needs. Assumes nothing.
-use mathlib.Core.Path.{_≡_, refl, sym, ap, _∙_}
-use mathlib.Core.Bool.{Bool, true, false, cond, _||_, or-assoc}
+-- Laws of one number more: handed to a tracker, noted as received, at the end of a history. Assumes nothing.
+use mathlib.Core.Path.{_≡_, refl}
+use mathlib.Core.Bool.{Bool, true, false, cond, _||_}
 use mathlib.Core.List.{List, [], _∷_, _++_}
 use Prim.Native.Nat.{ℕ, _^_, _≤_, _<_, max}
 use native.Mathlib.Omega.{arith}
@@ -10,12 +10,6 @@ use Rattle.acks.specs.History.{Packets, answerTo, highestOf, among, rece
 use Rattle.acks.specs.Tracking.{registerOf, registerAll}
 use Rattle.acks.specs.declared.Tracker.{Tracker}
 use Rattle.acks.proofs.Tracks.{highest-receive}
-
--- ---- which numbers are there
-pub among-append : (l m : List ℕ) (n : ℕ) → among (l ++ m) n ≡ (among l n || among m n)
-unfolding among
-among-append [] m n = refl
-among-append (k ∷ l) m n = ap (λ b. eqb n k || b) (among-append l m n) ∙ sym (or-assoc (eqb n k) (among l n) (among m n))
 
 -- ---- received: registered with answer 0, or 0 itself
 pub received-new : (l : List ℕ) (k n : ℕ) → 0 < n → among (receive l k) n ≡ (eqb n k || among l n)
