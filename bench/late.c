@@ -1,10 +1,11 @@
-/* What the memory of finished messages costs.
+/* What the memory of finished messages costs, with four neighbours that take turns.
  *   late list         the kinds of calls, one a line
  *   late time KIND    nanoseconds of a call of this kind, the median of 2,001 batches of 16, and its answer
  *   late count KIND   one batch within measured(), for a tool that counts instructions
- * A library that remembers nothing answers a late repeat by 0, one that remembers by 57; every other answer is the same. */
+ * A library that remembers nothing answers a late repeat by 0, one that remembers by 57; every other answer is the same. One from
+ * before neighbours has all messages of one sender: 16 open and 64 remembered, where now each neighbour has 4 and 16 of them. */
 #define _POSIX_C_SOURCE 200809L
-#include "strawhub.h"
+#include "piece.h"
 #include <stdio.h>
 #include <stdlib.h>
 #include <string.h>
@@ -51,15 +52,11 @@ static double now(void)
 	return t.tv_sec * 1e9 + t.tv_nsec;
 }
 
+/* A piece of message `id`, whose neighbour is told by the id. */
 static unsigned piece(uint8_t *record, uint32_t id, uint8_t number, uint8_t last, uint64_t second)
 {
-	if (number == 0)
-		return strawhub_store_first(record, STRAWHUB_RECORD, room, sizeof room, out, sizeof out, id, 20, 9, second, bytes,
-		                            LENGTH)
-		    .number;
-	return strawhub_store_follow_on(record, STRAWHUB_RECORD, room, sizeof room, out, sizeof out, id, number, last, second,
-	                                bytes, LENGTH)
-	    .number;
+	struct lent x = {record, room, out};
+	return piece_of(x, id % NEIGHBOURS, id, number, last, second, bytes, LENGTH);
 }
 
 static void wants(unsigned number, unsigned wanted)
@@ -70,14 +67,15 @@ static void wants(unsigned number, unsigned wanted)
 	exit(1);
 }
 
-/* The record before a batch: so many finished messages, every second one ten seconds later; 16 open ones where the calls go on with them. */
+/* The record before a batch: so many finished messages, every second one of a neighbour ten seconds later; 16 open ones where the
+ * calls go on with them. */
 static void prepare(const struct kind *k)
 {
 	uint32_t i;
 	wants(strawhub_store_new(prepared, sizeof prepared), STRAWHUB_DONE);
 	for (i = 0; i < k->finished; i++) {
 		wants(piece(prepared, DONE_FROM + i, 0, 0, 100), STRAWHUB_DONE);
-		wants(piece(prepared, DONE_FROM + i, 1, 1, 100 + i % 2 * 10), STRAWHUB_FINISHED);
+		wants(piece(prepared, DONE_FROM + i, 1, 1, 100 + i / NEIGHBOURS % 2 * 10), STRAWHUB_FINISHED);
 	}
 	for (i = 0; i < BATCH && (k->call == KEEPS || k->call == FINISHES); i++)
 		wants(piece(prepared, i, 0, 0, 100), STRAWHUB_DONE);

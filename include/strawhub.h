@@ -23,12 +23,15 @@ extern "C" {
 /* Bytes that a tracker takes, a sender, a store's record, its room, and a finished message at most. */
 #define STRAWHUB_TRACKER 259
 #define STRAWHUB_SENDER 4104
-#define STRAWHUB_RECORD 9345
+#define STRAWHUB_RECORD 9352
 #define STRAWHUB_ROOM 1048560
 #define STRAWHUB_MESSAGE 65535
 
 /* Packets that a sender has outstanding at most. */
 #define STRAWHUB_OUTSTANDING 256
+
+/* Neighbours of a store: their numbers are 0 to 3. */
+#define STRAWHUB_NEIGHBOURS 4
 
 enum strawhub_number {
 	STRAWHUB_DONE = 0,
@@ -59,12 +62,13 @@ enum strawhub_number {
 	STRAWHUB_EXPANSION_LONG = 46,        /* an expansion has more numbers than its list holds */
 	STRAWHUB_PIECE_LENGTH = 50,          /* piece length 0 or above 1,500 */
 	STRAWHUB_PIECE_NUMBER = 51,          /* follow-on number 0 or above 127 */
-	STRAWHUB_STORE_FULL = 52,            /* message not open and 16 are */
+	STRAWHUB_STORE_FULL = 52,            /* message not open and this neighbour has 4 open */
 	STRAWHUB_MESSAGE_LONG = 53,          /* total would pass 65,535 */
 	STRAWHUB_PIECE_AGAIN = 54,           /* exact repeat of a held piece */
 	STRAWHUB_PIECE_CONFLICT = 55,        /* same number, other content; above the last; a last that cannot be */
 	STRAWHUB_BUFFER_SHORT = 56,          /* would complete, assembly buffer too short */
 	STRAWHUB_ALREADY_FINISHED = 57,      /* piece of a finished message whose id is remembered */
+	STRAWHUB_NEIGHBOUR_HIGH = 58,        /* neighbour number above 3 */
 	STRAWHUB_LENT_SHORT = 59,            /* lent room or record short, or the record names bytes outside it */
 	STRAWHUB_FINISHED = 60,              /* a message is finished */
 	STRAWHUB_SENDER_FULL = 70,           /* 256 packets are outstanding */
@@ -224,44 +228,68 @@ struct strawhub_outcome strawhub_sender_ack(uint8_t *sender, size_t sender_len, 
 struct strawhub_outcome strawhub_sender_outstanding(const uint8_t *sender, size_t sender_len, size_t k,
                                                     uint64_t out[3]);
 
-/* An empty store, in the first 9,345 bytes: no message is open, and no finished one is remembered. 9,345
- * zeros are an empty store too. 0, or 59 where there are fewer bytes. */
+/* ---- The store: the pieces of I2NP messages, put together.
+ *
+ * A store serves four neighbours. Each piece comes with the number of the neighbour that sent it, 0 to 3; the
+ * daemon decides which peer has which number. A number above 3 is a 58. It is taken as it is, in all 64 bits:
+ * 256 is a 58, and not neighbour 0.
+ *
+ * A neighbour may always have up to 4 messages open, whatever the others send, and never more than 4. A piece
+ * of a fifth message is a 52. Nothing that another neighbour sends makes a 52, or prevents one.
+ *
+ * Ids hold within a neighbour. Equal ids from two neighbours are two messages, so all pieces of a message have
+ * to come under one number.
+ *
+ * The store remembers the ids of each neighbour's last finished messages, 16 at most, and answers 57 to every
+ * piece that this neighbour sends under one of them. The far end sends a piece again when an acknowledgement
+ * was lost; the message was delivered already. So drop the piece, and acknowledge its packet as usual. A new
+ * message under a remembered id is refused in the same way. A sweep forgets an id 30 seconds after its message
+ * was finished. Where a neighbour has 16 remembered, the next message that it finishes pushes out its first
+ * finished one, and no other neighbour's. Nothing else forgets an id, so sweep regularly: before each payload,
+ * or once a second. One sweep serves all neighbours.
+ *
+ * A daemon that kept 16 messages open in one store does one of two things now.
+ *  1. One store for each session: hand in neighbour 0 with every piece. A session then has up to 4 messages
+ *     open, and 16 remembered.
+ *  2. One store for four peers: give each of them a number of its own. Together they have up to 16 messages
+ *     open and 64 remembered, 4 and 16 each. Two peers under one number would share its 4, and their ids would
+ *     be mixed up. When a peer is gone, wait for a sweep at least 30 seconds after its last piece before
+ *     another peer gets its number: until then its messages count for the new peer. */
+
+/* An empty store, in the first 9,352 bytes: no neighbour has a message open, and no finished one is
+ * remembered. 9,352 zeros are an empty store too. 0, or 59 where there are fewer bytes. */
 uint8_t strawhub_store_new(uint8_t *record, size_t record_len);
 
-/* A first piece came, at a second. 0 kept; 60 with the whole message at the start of out; or the first
- * refusal that holds of 59, 50, 57, 54, 55, 52, 53, 56. record holds at least 9,345 bytes, room 1,048,560;
- * out is the assembly buffer. A record that no call made gets 59 too where it names bytes outside their
- * slot's 65,535 for a piece that the call would compare or join.
- *
- * The store remembers the ids of the last finished messages, 64 at most, and answers 57 to every piece of a
- * remembered id. The far end sends a piece again when an acknowledgement was lost; the message was
- * delivered already. So drop the piece, and acknowledge its packet as usual. A new message under a
- * remembered id is refused in the same way. A sweep forgets an id 30 seconds after its message was finished.
- * Where 64 are remembered, the next message that is finished pushes out the one that was finished first.
- * Nothing else forgets an id, so sweep regularly: before each payload, or once a second. */
+/* A first piece came from a neighbour, at a second. 0 kept; 60 with the whole message at the start of out; or
+ * the first refusal that holds of 59, 58, 50, 57, 54, 55, 52, 53, 56. record holds at least 9,352 bytes, room
+ * 1,048,560, for all four neighbours together; out is the assembly buffer. A record that no call made gets 59
+ * too where it names bytes outside their slot's 65,535 for a piece that the call would compare or join. */
 struct strawhub_reply strawhub_store_first(uint8_t *record, size_t record_len, uint8_t *room, size_t room_len,
-                                           uint8_t *out, size_t out_len, uint32_t id, uint8_t kind, uint32_t expires,
-                                           uint64_t second, const uint8_t *bytes, size_t bytes_len);
+                                           uint8_t *out, size_t out_len, uint64_t neighbour, uint32_t id,
+                                           uint8_t kind, uint32_t expires, uint64_t second, const uint8_t *bytes,
+                                           size_t bytes_len);
 
-/* A follow-on piece came, in the same way; the refusals are 59, 50, 51, 57, 54, 55, 52, 53, 56 in this order.
- * last is a flag. */
+/* A follow-on piece came, in the same way; the refusals are 59, 58, 50, 51, 57, 54, 55, 52, 53, 56 in this
+ * order. last is a flag. */
 struct strawhub_reply strawhub_store_follow_on(uint8_t *record, size_t record_len, uint8_t *room, size_t room_len,
-                                               uint8_t *out, size_t out_len, uint32_t id, uint8_t number, uint8_t last,
-                                               uint64_t second, const uint8_t *bytes, size_t bytes_len);
+                                               uint8_t *out, size_t out_len, uint64_t neighbour, uint32_t id,
+                                               uint8_t number, uint8_t last, uint64_t second, const uint8_t *bytes,
+                                               size_t bytes_len);
 
-/* Drops exactly the open messages whose opening piece came 30 seconds before this second or earlier, and
- * forgets exactly the finished ones whose finishing piece did. A message that is dropped was not finished
- * and is not remembered: its next piece opens it anew. 0. */
+/* Drops exactly the open messages, of every neighbour, whose opening piece came 30 seconds before this second
+ * or earlier, and forgets exactly the finished ones whose finishing piece did. A message that is dropped was
+ * not finished and is not remembered: its next piece opens it anew. 0. */
 uint8_t strawhub_store_sweep(uint8_t *record, size_t record_len, uint64_t second);
 
-/* What the block at a place delivers. told: where the message stands (0 none, 1 in the payload, 2 in
- * the assembly buffer), its I2NP type, id, expiration, place and length there; all 0 where there is
- * none. 0: a whole message, or none (a piece was kept, or a block of another type); 60: a rebuilt one.
- * Or 1 to 9, or the store's refusal (59 and 50 to 57, for pieces alone), with the block's place, and then
- * told too is as it was. A whole message passes no store: its id is not remembered, and never gets 57. */
+/* What the block at a place of a neighbour's payload delivers. told: where the message stands (0 none, 1 in
+ * the payload, 2 in the assembly buffer), its I2NP type, id, expiration, place and length there; all 0 where
+ * there is none. 0: a whole message, or none (a piece was kept, or a block of another type); 60: a rebuilt
+ * one. Or 1 to 9, or the store's refusal (59, 58 and 50 to 57, for pieces alone), with the block's place, and
+ * then told too is as it was. A whole message passes no store: its id is not remembered, and it never gets
+ * 57, 58 or 59. */
 struct strawhub_outcome strawhub_block_deliver(const uint8_t *payload, size_t payload_len, size_t at, uint8_t *record,
                                                size_t record_len, uint8_t *room, size_t room_len, uint8_t *out,
-                                               size_t out_len, uint64_t second, uint64_t told[6]);
+                                               size_t out_len, uint64_t neighbour, uint64_t second, uint64_t told[6]);
 
 #ifdef __cplusplus
 }

@@ -4,8 +4,11 @@ from blocks_model import shown
 NOTHING = (0, 0, 0, 0, 0, 0)
 
 
-def deliver(payload, at, store, second, room):
-    """(number, place of the block where it or its piece is refused, else 0, told, rebuilt message); told is (where, type, id, expiration, place, length) or None."""
+def deliver(payload, at, store, neighbour, second, room):
+    """A neighbour's block: (number, place of the block where it or its piece is refused, else 0, told, rebuilt message).
+
+    told is (where, type, id, expiration, place, length) or None.
+    """
     number, after, block = shown(payload, at)
     if number:
         return number, at, None, None
@@ -17,9 +20,9 @@ def deliver(payload, at, store, second, room):
     data = payload[place:place + length]
     ident = fields[1] if kind == 4 else fields[2]
     if kind == 4:
-        number, message = store.first(ident, fields[0], fields[2], second, data, room)
+        number, message = store.first(neighbour, ident, fields[0], fields[2], second, data, room)
     else:
-        number, message = store.follow_on(ident, fields[0], bool(fields[1]), second, data, room)
+        number, message = store.follow_on(neighbour, ident, fields[0], bool(fields[1]), second, data, room)
     if number == 60:
         return 60, 0, (2, message[0], ident, message[1], 0, len(message[2])), message[2]
     return (0, 0, NOTHING, None) if number == 0 else (number, at, None, None)

@@ -1,4 +1,7 @@
-"""An independent model of document 01's reassembly and of document 02's late repeats (P5), written from their text and from nothing else."""
+"""An independent model of document 01's reassembly and of 02's late repeats (P5) and fair slots (P12), written from their text and nothing else."""
+
+HIGHEST = 3  # neighbours are numbered from 0
+
 
 class Message:
     """An open message: the second it was opened in, its pieces by number, its last number and its head once known."""
@@ -14,14 +17,13 @@ class Message:
 
 
 class Store:
-    """16 open messages at most. A piece has 1 to 1,500 bytes and a number from 0 to 127; a message has at most 65,535 bytes.
+    """One neighbour's: `most` open messages at most. A piece has 1 to 1,500 bytes and a number from 0 to 127; a message has at most 65,535 bytes.
 
-    The last `keep` finished messages are remembered as (id, second of the finishing piece), the first finished first; with 0 it is
-    the store of document 01, which remembers none.
+    The last `keep` finished messages are remembered as (id, second of the finishing piece), the first finished first; with 0 none is.
     """
 
-    def __init__(self, keep=64):
-        self.keep = keep
+    def __init__(self, most=4, keep=16):
+        self.most, self.keep = most, keep
         self.open = {}
         self.finished = []
 
@@ -64,7 +66,7 @@ class Store:
                 return 55, None
             if last and (old.last is not None or any(n > number for n in old.pieces)):
                 return 55, None
-        elif len(self.open) == 16:
+        elif len(self.open) == self.most:
             return 52, None
         message = old or Message(second)
         if sum(map(len, message.pieces.values())) + len(data) > 65535:
@@ -85,3 +87,46 @@ class Store:
             return 56, None
         self._finish(ident, second)
         return 60, (message.head[0], message.head[1], whole)
+
+
+class Neighbours:
+    """The store of four neighbours: ids, open messages and finished ones are each neighbour's own; one sweep for all, one clock."""
+
+    def __init__(self, keep=16):
+        self.stores = [Store(keep=keep) for _ in range(HIGHEST + 1)]
+
+    def first(self, neighbour, *piece):
+        return (58, None) if neighbour > HIGHEST else self.stores[neighbour].first(*piece)
+
+    def follow_on(self, neighbour, *piece):
+        return (58, None) if neighbour > HIGHEST else self.stores[neighbour].follow_on(*piece)
+
+    def sweep(self, second):
+        for store in self.stores:
+            store.sweep(second)
+        return 0
+
+    def summary(self):
+        """How many messages each neighbour has open."""
+        return [len(store.open) for store in self.stores]
+
+    def open(self):
+        """The open messages, each by neighbour and id."""
+        return {(n, ident) for n, store in enumerate(self.stores) for ident in store.open}
+
+
+class Shared:
+    """The store before P12: 16 slots and 64 remembered messages for whoever comes first. Ids are kept apart by neighbour all the same."""
+
+    def __init__(self):
+        self.store = Store(most=16, keep=64)
+        self.sweep = self.store.sweep
+
+    def open(self):
+        return set(self.store.open)
+
+    def first(self, neighbour, ident, *piece):
+        return self.store.first((neighbour, ident), *piece)
+
+    def follow_on(self, neighbour, ident, *piece):
+        return self.store.follow_on((neighbour, ident), *piece)

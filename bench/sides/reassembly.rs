@@ -1,6 +1,7 @@
 //! A piece taken, over whole messages. The Rust's time has the making of the Vec that its call takes and the dropping of the
 //! message that it gives; neither side's state, room or buffer is cleared between messages. Each message has a new id, for the
-//! library refuses those that it remembers; it remembers 64 from the 64th message on, and no sweep is made.
+//! library refuses those that it remembers; it remembers 16 of a neighbour from that neighbour's 16th message on, and no sweep is
+//! made. One message at a time is neighbour 0's; of 16, each of the library's neighbours has 4, and the Rust's one handler all.
 use crate::Row;
 use oracle::{
     ffi::Store,
@@ -12,8 +13,9 @@ use oracle::{
 };
 use std::{hint::black_box, rc::Rc};
 
-/// A message's piece on its way.
+/// A message's piece on its way from a neighbour.
 struct Piece {
+    from: u64,
     id: u32,
     number: u8,
     last: bool,
@@ -41,7 +43,8 @@ fn pieces(lengths: &[usize], order: Order, open: u32) -> Vec<Piece> {
     for number in numbers {
         for id in 1..=open {
             let (place, bytes) = (lengths[..number].iter().sum(), random.bytes(lengths[number]));
-            all.push(Piece { id, number: number as u8, last: number + 1 == lengths.len(), place, bytes });
+            let from = (id as u64 - 1) % 4;
+            all.push(Piece { from, id, number: number as u8, last: number + 1 == lengths.len(), place, bytes });
         }
     }
     all
@@ -59,8 +62,8 @@ fn rust(handler: &mut FragmentHandler<Rt>, p: &Piece, first_id: u32) -> bool {
 fn ours(store: &mut Store, p: &Piece, first_id: u32) -> bool {
     let id = p.id.wrapping_add(first_id);
     let reply = match p.number {
-        0 => store.first(id, 20, 9, 0, &p.bytes),
-        n => store.follow_on(id, n, p.last, 0, &p.bytes),
+        0 => store.first(p.from, id, 20, 9, 0, &p.bytes),
+        n => store.follow_on(p.from, id, n, p.last, 0, &p.bytes),
     };
     black_box(reply).number == 60
 }

@@ -6,7 +6,7 @@ pub use calls::{ack_expand, block_list, block_read, block_write, header_read, he
 
 pub const TRACKER: usize = 259;
 pub const SENDER: usize = 4104;
-pub const RECORD: usize = 9345;
+pub const RECORD: usize = 9352;
 pub const ROOM: usize = 1_048_560;
 pub const MESSAGE: usize = 65_535;
 
@@ -99,20 +99,20 @@ impl Store {
         calls::Store { record: &mut self.record, room: &mut self.room, out: &mut self.out }
     }
 
-    pub fn first(&mut self, id: u32, kind: u8, expires: u32, second: u64, bytes: &[u8]) -> Reply {
-        calls::store_first(self.lent(), id, kind, expires, second, bytes)
+    pub fn first(&mut self, neighbour: u64, id: u32, kind: u8, expires: u32, second: u64, bytes: &[u8]) -> Reply {
+        calls::store_first(self.lent(), neighbour, id, kind, expires, second, bytes)
     }
 
-    pub fn follow_on(&mut self, id: u32, number: u8, last: bool, second: u64, bytes: &[u8]) -> Reply {
-        calls::store_follow_on(self.lent(), id, number, last, second, bytes)
+    pub fn follow_on(&mut self, neighbour: u64, id: u32, number: u8, last: bool, second: u64, bytes: &[u8]) -> Reply {
+        calls::store_follow_on(self.lent(), neighbour, id, number, last, second, bytes)
     }
 
     pub fn sweep(&mut self, second: u64) -> u8 {
         calls::store_sweep(&mut self.record, second)
     }
 
-    /// What the block at a place delivers.
-    pub fn deliver(&mut self, payload: &[u8], at: usize, second: u64, told: &mut [u64; 6]) -> Outcome {
-        calls::block_deliver(payload, at, self.lent(), second, told)
+    /// What the block at a place of a neighbour's payload delivers.
+    pub fn deliver(&mut self, neighbour: u64, payload: &[u8], at: usize, second: u64, told: &mut [u64; 6]) -> Outcome {
+        calls::block_deliver(payload, at, self.lent(), neighbour, second, told)
     }
 }

@@ -1,5 +1,10 @@
 //! Reassembly: the Rust's FragmentHandler beside a store, over schedules that only ever repeat a piece exactly.
 //!
+//! The Rust has no neighbours: a session has a FragmentHandler of its own. So four of them, one for each neighbour, stand beside
+//! one store of the library; in half of the schedules only neighbour 0 sends. A handler keeps any number of messages, the library
+//! 4 of a neighbour: the domain is schedules in which no neighbour ever has more than 4 open, and a schedule begins another
+//! message only for a neighbour that has fewer on their way. 52 and 58, which the Rust does not know, do not come in it.
+//!
 //! The Rust remembers no finished message. So pieces of one that the library remembers, and new messages under its id, go to
 //! the library alone, which has to refuse them with 57; what both answer afterwards is compared as before.
 use crate::tally::Tally;
@@ -16,15 +21,19 @@ use oracle::{
 use std::collections::VecDeque;
 
 const LISTED: [u8; 14] = [1, 2, 3, 10, 11, 18, 19, 20, 21, 22, 23, 24, 25, 26];
-const OPEN: usize = 16;
-const REMEMBERED: usize = 64;
+const NEIGHBOURS: usize = 4;
+
+/// Of each neighbour: messages open, and finished ones remembered.
+const OPEN: usize = 4;
+const REMEMBERED: usize = 16;
 
 /// Seconds after which a sweep drops an open message and forgets a finished one.
 const LAPSE: u64 = 30;
 
-/// A message with the pieces that carry it.
+/// A neighbour's message with the pieces that carry it.
 #[derive(Debug, Clone)]
 pub struct Whole {
+    pub from: usize,
     pub id: u32,
     pub kind: u8,
     pub expires: u32,
@@ -52,7 +61,8 @@ impl Answer {
 }
 
 pub struct Both {
-    pub rust: FragmentHandler<Rt>,
+    /// One for each neighbour.
+    pub rust: [FragmentHandler<Rt>; NEIGHBOURS],
     pub ours: Store,
     /// Pieces travel in payloads: the Rust parses them, and strawhub_block_deliver takes the block from its place.
     pub in_payloads: bool,
@@ -60,11 +70,11 @@ pub struct Both {
 
 impl Both {
     pub fn new() -> Self {
-        Self { rust: FragmentHandler::new(NoMetrics), ours: Store::new(), in_payloads: false }
+        Self { rust: handlers(), ours: Store::new(), in_payloads: false }
     }
 
     pub fn renew(&mut self) {
-        self.rust = FragmentHandler::new(NoMetrics);
+        self.rust = handlers();
         self.ours.renew();
     }
 
@@ -72,21 +82,21 @@ impl Both {
     pub fn rust(&mut self, m: &Whole, number: usize, held: bool) -> Answer {
         let (id, bytes) = (MessageId::from(m.id), m.pieces[number].clone());
         let message = match number {
-            _ if self.in_payloads => self.parsed(&payload(m, number).0),
-            0 => self.rust.first_fragment(MessageType(m.kind), id, m.expires, bytes),
-            _ => self.rust.follow_on_fragment(id, number as u8, number + 1 == m.pieces.len(), bytes),
+            _ if self.in_payloads => self.parsed(m.from, &payload(m, number).0),
+            0 => self.rust[m.from].first_fragment(MessageType(m.kind), id, m.expires, bytes),
+            _ => self.rust[m.from].follow_on_fragment(id, number as u8, number + 1 == m.pieces.len(), bytes),
         };
         told(message, held)
     }
 
     /// As the Rust's session does: the payload's blocks, and the pieces among them to the handler.
-    fn parsed(&mut self, payload: &[u8]) -> Option<Message> {
+    fn parsed(&mut self, from: usize, payload: &[u8]) -> Option<Message> {
         let piece = |block| match block {
             Block::FirstFragment { message_type, message_id, expiration, fragment } => {
-                self.rust.first_fragment(message_type, message_id, expiration, fragment)
+                self.rust[from].first_fragment(message_type, message_id, expiration, fragment)
             }
             Block::FollowOnFragment { last, message_id, fragment_num, fragment } => {
-                self.rust.follow_on_fragment(message_id, fragment_num, last, fragment)
+                self.rust[from].follow_on_fragment(message_id, fragment_num, last, fragment)
             }
             _ => None,
         };
@@ -99,15 +109,15 @@ impl Both {
             return self.delivered(m, number, second);
         }
         let reply = match number {
-            0 => self.ours.first(m.id, m.kind, m.expires, second, bytes),
-            _ => self.ours.follow_on(m.id, number as u8, number + 1 == m.pieces.len(), second, bytes),
+            0 => self.ours.first(m.from as u64, m.id, m.kind, m.expires, second, bytes),
+            _ => self.ours.follow_on(m.from as u64, m.id, number as u8, number + 1 == m.pieces.len(), second, bytes),
         };
         said(m.id, reply, &self.ours.out)
     }
 
     fn delivered(&mut self, m: &Whole, number: usize, second: u64) -> Answer {
         let ((payload, at), mut told) = (payload(m, number), [0; 6]);
-        let outcome = self.ours.deliver(&payload, at, second, &mut told);
+        let outcome = self.ours.deliver(m.from as u64, &payload, at, second, &mut told);
         match (outcome.number, told) {
             (0, [0, 0, 0, 0, 0, 0]) => Answer::Kept,
             (54, _) => Answer::Again,
@@ -118,6 +128,10 @@ impl Both {
             (number, _) => Answer::Refused(number as u8),
         }
     }
+}
+
+fn handlers() -> [FragmentHandler<Rt>; NEIGHBOURS] {
+    std::array::from_fn(|_| FragmentHandler::new(NoMetrics))
 }
 
 /// A payload with a piece between a time and padding, and the piece's place.
@@ -160,7 +174,7 @@ pub fn said(id: u32, reply: Reply, out: &[u8]) -> Answer {
 }
 
 /// A message within document 01's limits.
-fn whole(random: &mut Random, id: u32) -> Whole {
+fn whole(random: &mut Random, from: usize, id: u32) -> Whole {
     let count = match random.below(8) {
         0..=3 => random.range(2, 4),
         4..=5 => random.range(2, 12),
@@ -175,17 +189,18 @@ fn whole(random: &mut Random, id: u32) -> Whole {
     };
     let lengths: Vec<usize> = (0..count).map(|_| random.range(1, longest)).collect();
     let pieces = lengths.iter().map(|n| random.bytes(*n)).collect();
-    Whole { id, kind: random.pick(&LISTED), expires: random.next() as u32, pieces }
+    Whole { from, id, kind: random.pick(&LISTED), expires: random.next() as u32, pieces }
 }
 
 /// A message of 65,535 bytes in the fewest pieces that carry it.
-fn largest(random: &mut Random, id: u32) -> Whole {
-    let mut m = whole(random, id);
+fn largest(random: &mut Random, from: usize, id: u32) -> Whole {
+    let mut m = whole(random, from, id);
     m.pieces = (0..44).map(|i| random.bytes(if i < 43 { 1_500 } else { 1_035 })).collect();
     m
 }
 
-/// The finished messages that the library remembers, the first finished first, each with the second of its finishing piece.
+/// The finished messages of a neighbour that the library remembers, the first finished first, each with the second of its
+/// finishing piece.
 #[derive(Default)]
 struct Finished(VecDeque<(Whole, u64)>);
 
@@ -215,8 +230,8 @@ struct Sending {
 }
 
 impl Sending {
-    fn new(random: &mut Random, id: u32) -> Self {
-        let message = if random.once_in(200) { largest(random, id) } else { whole(random, id) };
+    fn new(random: &mut Random, from: usize, id: u32) -> Self {
+        let message = if random.once_in(200) { largest(random, from, id) } else { whole(random, from, id) };
         let n = message.pieces.len();
         let mut left: Vec<usize> = (0..n).collect();
         match random.below(4) {
@@ -240,7 +255,10 @@ impl Sending {
 /// Sends one piece to both sides and compares; true where its message is finished.
 fn send(both: &mut Both, tally: &mut Tally, m: &Whole, number: usize, held: bool, second: u64) -> bool {
     let (rust, ours) = (both.rust(m, number, held), both.ours(m, number, second));
-    let input = || format!("id {} piece {number} of {} (held: {held}), bytes {}", m.id, m.pieces.len(), hex(&m.pieces[number]));
+    let input = || {
+        let (n, bytes) = (m.pieces.len(), hex(&m.pieces[number]));
+        format!("neighbour {} id {} piece {number} of {n} (held: {held}), bytes {bytes}", m.from, m.id)
+    };
     tally.compare(rust.number(), &rust, &ours, input);
     rust.number() == 60
 }
@@ -248,37 +266,49 @@ fn send(both: &mut Both, tally: &mut Tally, m: &Whole, number: usize, held: bool
 /// Sends a piece of a remembered id to the library alone: 57.
 fn send_late(both: &mut Both, tally: &mut Tally, m: &Whole, number: usize, second: u64) {
     let ours = both.ours(m, number, second);
-    tally.compare(57, &Answer::Refused(57), &ours, || format!("id {} piece {number} of {}, remembered", m.id, m.pieces.len()));
+    let input = || format!("neighbour {} id {} piece {number} of {}, remembered", m.from, m.id, m.pieces.len());
+    tally.compare(57, &Answer::Refused(57), &ours, input);
 }
 
-/// Up to 16 messages at once, their pieces in any order between each other, new messages as others finish; late repeats.
+/// Up to 4 messages of each neighbour at once, their pieces in any order between each other, new messages as others finish;
+/// late repeats. Some ids are used by several neighbours.
 struct Schedule<'a> {
     both: &'a mut Both,
     random: &'a mut Random,
     tally: &'a mut Tally,
+    /// How many neighbours send, and how many messages each has on their way at most.
+    neighbours: usize,
+    most: usize,
     open: Vec<Sending>,
-    finished: Finished,
+    finished: [Finished; NEIGHBOURS],
     second: u64,
 }
 
 impl Schedule<'_> {
-    /// Begins another message; where its id is remembered, its first piece goes to the library alone.
+    /// Begins another message of a neighbour that may have one more open; where its id is remembered, its first piece goes to
+    /// the library alone.
     fn begin(&mut self) {
+        let from = self.random.below(self.neighbours);
         let fixed = self.random.once_in(4);
         let id = if fixed { self.random.pick(&[0, 1, 2, u32::MAX]) } else { self.random.next() as u32 };
-        if self.open.iter().any(|s| s.message.id == id) {
+        let of_it = self.open.iter().filter(|s| s.message.from == from);
+        if of_it.clone().count() >= self.most || of_it.clone().any(|s| s.message.id == id) {
             return;
         }
-        let begun = Sending::new(self.random, id);
-        if self.finished.holds(id) {
+        let begun = Sending::new(self.random, from, id);
+        if self.finished[from].holds(id) {
             return send_late(self.both, self.tally, &begun.message, 0, self.second);
         }
         self.open.push(begun);
     }
 
-    /// A piece of a remembered message once more.
+    /// A piece of a neighbour's remembered message once more.
     fn repeat(&mut self) {
-        let (m, _) = &self.finished.0[self.random.below(self.finished.0.len())];
+        let Finished(of_it) = &self.finished[self.random.below(self.neighbours)];
+        if of_it.is_empty() {
+            return;
+        }
+        let (m, _) = &of_it[self.random.below(of_it.len())];
         send_late(self.both, self.tally, m, self.random.below(m.pieces.len()), self.second);
     }
 
@@ -287,7 +317,7 @@ impl Schedule<'_> {
         let young = |s: &Sending| s.opened.map_or(true, |at| self.second < at + LAPSE);
         if self.open.iter().all(young) {
             self.both.ours.sweep(self.second);
-            self.finished.sweep(self.second);
+            self.finished.iter_mut().for_each(|f| f.sweep(self.second));
         }
     }
 
@@ -304,7 +334,8 @@ impl Schedule<'_> {
             return false;
         }
         if all {
-            self.finished.add(self.open.swap_remove(which).message, self.second);
+            let message = self.open.swap_remove(which).message;
+            self.finished[message.from].add(message, self.second);
         }
         true
     }
@@ -313,17 +344,19 @@ impl Schedule<'_> {
 fn schedule(both: &mut Both, random: &mut Random, tally: &mut Tally) {
     both.renew();
     both.in_payloads = random.once_in(2);
-    let most = random.pick(&[1, 2, 5, OPEN, OPEN]);
-    let mut s = Schedule { both, random, tally, open: Vec::new(), finished: Finished::default(), second: 0 };
+    let neighbours = random.pick(&[1, NEIGHBOURS]);
+    let most = random.pick(&[1, 2, 3, OPEN, OPEN]);
+    let (open, finished) = (Vec::new(), Default::default());
+    let mut s = Schedule { both, random, tally, neighbours, most, open, finished, second: 0 };
     for step in 0..500 {
         s.second = step / 4;
         if s.random.once_in(20) {
             s.sweep();
         }
-        if s.open.len() < most && (s.open.is_empty() || s.random.once_in(3)) {
+        if s.open.is_empty() || s.random.once_in(3) {
             s.begin();
         }
-        if !s.finished.0.is_empty() && s.random.once_in(12) {
+        if s.random.once_in(12) {
             s.repeat();
         }
         if !s.tally.wants() || !s.open.is_empty() && !s.piece() {
@@ -332,9 +365,10 @@ fn schedule(both: &mut Both, random: &mut Random, tally: &mut Tally) {
     }
 }
 
-/// Every order of the pieces of a short message, each piece once more at every place where it is held, and after the end.
+/// Every order of the pieces of a short message of neighbour 0, each piece once more at every place where it is held, and after
+/// the end.
 fn orders(both: &mut Both, random: &mut Random, tally: &mut Tally, count: usize) {
-    let mut m = whole(random, 7);
+    let mut m = whole(random, 0, 7);
     m.pieces = (0..count).map(|i| vec![i as u8; i + 1]).collect();
     let mut order: Vec<usize> = (0..count).collect();
     permutations(&mut order, count, &mut |order| {

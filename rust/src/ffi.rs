@@ -164,6 +164,7 @@ mod c {
             room_len: usize,
             out: *mut u8,
             out_len: usize,
+            neighbour: u64,
             id: u32,
             kind: u8,
             expires: u32,
@@ -179,6 +180,7 @@ mod c {
             room_len: usize,
             out: *mut u8,
             out_len: usize,
+            neighbour: u64,
             id: u32,
             number: u8,
             last: u8,
@@ -199,6 +201,7 @@ mod c {
             room_len: usize,
             out: *mut u8,
             out_len: usize,
+            neighbour: u64,
             second: u64,
             told: *mut u64,
         ) -> Outcome;
@@ -318,7 +321,15 @@ pub fn store_new(record: &mut [u8]) -> u8 {
     unsafe { c::strawhub_store_new(record.as_mut_ptr(), record.len()) }
 }
 
-pub fn store_first(store: Store<'_>, id: u32, kind: u8, expires: u32, second: u64, bytes: &[u8]) -> Reply {
+pub fn store_first(
+    store: Store<'_>,
+    neighbour: u64,
+    id: u32,
+    kind: u8,
+    expires: u32,
+    second: u64,
+    bytes: &[u8],
+) -> Reply {
     // SAFETY: slices with their own lengths; borrowed mutably, they do not overlap.
     unsafe {
         c::strawhub_store_first(
@@ -328,6 +339,7 @@ pub fn store_first(store: Store<'_>, id: u32, kind: u8, expires: u32, second: u6
             store.room.len(),
             store.out.as_mut_ptr(),
             store.out.len(),
+            neighbour,
             id,
             kind,
             expires,
@@ -338,7 +350,15 @@ pub fn store_first(store: Store<'_>, id: u32, kind: u8, expires: u32, second: u6
     }
 }
 
-pub fn store_follow_on(store: Store<'_>, id: u32, number: u8, last: bool, second: u64, bytes: &[u8]) -> Reply {
+pub fn store_follow_on(
+    store: Store<'_>,
+    neighbour: u64,
+    id: u32,
+    number: u8,
+    last: bool,
+    second: u64,
+    bytes: &[u8],
+) -> Reply {
     // SAFETY: slices with their own lengths; borrowed mutably, they do not overlap.
     unsafe {
         c::strawhub_store_follow_on(
@@ -348,6 +368,7 @@ pub fn store_follow_on(store: Store<'_>, id: u32, number: u8, last: bool, second
             store.room.len(),
             store.out.as_mut_ptr(),
             store.out.len(),
+            neighbour,
             id,
             number,
             last as u8,
@@ -363,7 +384,14 @@ pub fn store_sweep(record: &mut [u8], second: u64) -> u8 {
     unsafe { c::strawhub_store_sweep(record.as_mut_ptr(), record.len(), second) }
 }
 
-pub fn block_deliver(payload: &[u8], at: usize, store: Store<'_>, second: u64, told: &mut [u64; 6]) -> Outcome {
+pub fn block_deliver(
+    payload: &[u8],
+    at: usize,
+    store: Store<'_>,
+    neighbour: u64,
+    second: u64,
+    told: &mut [u64; 6],
+) -> Outcome {
     // SAFETY: slices with their own lengths, the mutable ones apart; an array of the declared length.
     unsafe {
         c::strawhub_block_deliver(
@@ -376,6 +404,7 @@ pub fn block_deliver(payload: &[u8], at: usize, store: Store<'_>, second: u64, t
             store.room.len(),
             store.out.as_mut_ptr(),
             store.out.len(),
+            neighbour,
             second,
             told.as_mut_ptr(),
         )

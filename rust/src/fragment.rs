@@ -3,7 +3,7 @@
 use crate::{ffi, Refusal, RefusedAt};
 
 /// The bytes of a store's record.
-pub const RECORD: usize = 9_345;
+pub const RECORD: usize = 9_352;
 
 /// The bytes of a store's room.
 pub const ROOM: usize = 1_048_560;
@@ -13,6 +13,9 @@ pub const MESSAGE: usize = 65_535;
 
 /// The bytes of all three.
 pub const STORAGE: usize = RECORD + ROOM + MESSAGE;
+
+/// The neighbours of a store. Their numbers are 0 to 3.
+pub const NEIGHBOURS: u64 = 4;
 
 /// An I2NP message, its bytes a part of what it came in.
 #[derive(Debug, Clone, Copy, PartialEq, Eq, Hash)]
@@ -78,7 +81,7 @@ pub struct FragmentStorage<B = [u8; STORAGE]> {
 }
 
 impl FragmentStorage {
-    /// Storage with no message open and none remembered, for a static. These are 1,123,440 bytes: more than a thread's
+    /// Storage with no message open and none remembered, for a static. These are 1,123,447 bytes: more than a thread's
     /// stack may have left.
     pub const fn new() -> Self {
         FragmentStorage { bytes: [0; STORAGE] }
@@ -111,17 +114,37 @@ impl Default for FragmentStorage {
     }
 }
 
-/// Keeps the pieces of at most 16 open messages, and gives a message out when its
-/// last number is known and every number up to it is held.
+/// Keeps the pieces of open messages, and gives a message out when its last number is known and every
+/// number up to it is held.
 ///
 /// A piece comes with the present second. [`FragmentHandler::sweep`] drops what was opened 30 seconds
 /// ago or more.
 ///
-/// The ids of finished messages are remembered, 64 at most. Every piece of a remembered id is refused
-/// with 57: the far end sends a piece again when an acknowledgement was lost, and the message was
-/// delivered already. Drop such a piece, and acknowledge its packet as usual. A sweep forgets what was
-/// finished 30 seconds ago or more; where 64 are remembered, the next finished message pushes out the
-/// one that was finished first. Nothing else forgets an id, so sweep regularly.
+/// **Neighbours.** A handler serves four neighbours, 0 to 3; the daemon decides which peer has which
+/// number. Each may always have up to 4 messages open, whatever the others send, and never more than 4: a
+/// piece of a fifth is refused with 52. Ids hold within a neighbour, so equal ids from two neighbours are
+/// two messages, and all pieces of a message have to come under one number. The calls whose names end in
+/// `_from` take the neighbour's number, and refuse one above 3 with 58; the others mean neighbour 0.
+///
+/// - One handler for each session: call [`first_fragment`], [`follow_on_fragment`] and [`deliver`]. The
+///   session then has up to 4 messages open, and 16 remembered.
+/// - One handler for four peers: give each a number of its own, and call [`first_fragment_from`],
+///   [`follow_on_fragment_from`] and [`deliver_from`]. When a peer is gone, wait for a sweep at least 30
+///   seconds after its last piece before another peer gets its number.
+///
+/// [`first_fragment`]: FragmentHandler::first_fragment
+/// [`follow_on_fragment`]: FragmentHandler::follow_on_fragment
+/// [`deliver`]: FragmentHandler::deliver
+/// [`first_fragment_from`]: FragmentHandler::first_fragment_from
+/// [`follow_on_fragment_from`]: FragmentHandler::follow_on_fragment_from
+/// [`deliver_from`]: FragmentHandler::deliver_from
+///
+/// **Late repeats.** The ids of finished messages are remembered, 16 at most of each neighbour. Every piece
+/// that this neighbour sends under a remembered id is refused with 57: the far end sends a piece again when
+/// an acknowledgement was lost, and the message was delivered already. Drop such a piece, and acknowledge its
+/// packet as usual. A sweep forgets what was finished 30 seconds ago or more; where a neighbour has 16
+/// remembered, its next finished message pushes out its first finished one. Nothing else forgets an id, so
+/// sweep regularly; one sweep serves all neighbours.
 ///
 /// ```
 /// use strawhub::{FragmentStorage, Refusal, STORAGE};
@@ -138,6 +161,33 @@ impl Default for FragmentStorage {
 /// // the acknowledgement was lost, and a piece comes again: it opens nothing, and no letter comes twice
 /// let late = handler.follow_on_fragment(7, 1, false, 105, b"b");
 /// assert_eq!(late, Err(Refusal::AlreadyFinished));
+/// # Ok::<(), Refusal>(())
+/// ```
+///
+/// Two neighbours that use one id:
+///
+/// ```
+/// use strawhub::{FragmentStorage, Refusal, STORAGE};
+///
+/// let mut storage = FragmentStorage::over(vec![0; STORAGE])?;
+/// let mut handler = storage.handler();
+/// handler.first_fragment_from(0, 20, 7, 9, 100, b"a")?;
+/// handler.first_fragment_from(1, 20, 7, 9, 100, b"A")?;
+/// let letter = handler.follow_on_fragment_from(0, 7, 1, true, 100, b"b")?.unwrap();
+/// assert_eq!(letter.payload, b"ab");
+/// let letter = handler.follow_on_fragment_from(1, 7, 1, true, 100, b"B")?.unwrap();
+/// assert_eq!(letter.payload, b"AB");
+///
+/// // a noisy neighbour meets 52 at its fifth message, and nobody else does
+/// for id in 0..4 {
+///     handler.first_fragment_from(0, 20, id, 9, 100, b"a")?;
+/// }
+/// assert_eq!(handler.first_fragment_from(0, 20, 4, 9, 100, b"a"), Err(Refusal::StoreFull));
+/// assert_eq!(handler.first_fragment_from(1, 20, 4, 9, 100, b"a"), Ok(None));
+///
+/// // there is no neighbour 4; nor is 256 cut to a byte
+/// assert_eq!(handler.first_fragment_from(4, 20, 5, 9, 100, b"a"), Err(Refusal::NeighbourHigh));
+/// assert_eq!(handler.first_fragment_from(256, 20, 5, 9, 100, b"a"), Err(Refusal::NeighbourHigh));
 /// # Ok::<(), Refusal>(())
 /// ```
 pub struct FragmentHandler<'a> {
@@ -179,7 +229,7 @@ impl<'a> FragmentHandler<'a> {
         Ok(FragmentHandler { record, room, assembly })
     }
 
-    /// A first piece came. Gives the message if no other was missing.
+    /// A first piece came, from neighbour 0. Gives the message if no other was missing.
     ///
     /// Refuses with the first that holds of 50, 57, 54, 55, 52, 53, 56.
     pub fn first_fragment(
@@ -190,11 +240,26 @@ impl<'a> FragmentHandler<'a> {
         second: u64,
         payload: &[u8],
     ) -> Result<Option<Message<'_>>, Refusal> {
-        let reply = ffi::store_first(self.store(), message_id, message_type, expiration, second, payload);
+        self.first_fragment_from(0, message_type, message_id, expiration, second, payload)
+    }
+
+    /// A first piece came from a neighbour, 0 to 3. Gives the message if no other was missing.
+    ///
+    /// Refuses with the first that holds of 58, 50, 57, 54, 55, 52, 53, 56.
+    pub fn first_fragment_from(
+        &mut self,
+        neighbour: u64,
+        message_type: u8,
+        message_id: u32,
+        expiration: u32,
+        second: u64,
+        payload: &[u8],
+    ) -> Result<Option<Message<'_>>, Refusal> {
+        let reply = ffi::store_first(self.store(), neighbour, message_id, message_type, expiration, second, payload);
         self.finished(message_id, reply)
     }
 
-    /// A follow-on piece came. Gives the message if no other was missing.
+    /// A follow-on piece came, from neighbour 0. Gives the message if no other was missing.
     ///
     /// Refuses with the first that holds of 50, 51, 57, 54, 55, 52, 53, 56.
     pub fn follow_on_fragment(
@@ -205,12 +270,27 @@ impl<'a> FragmentHandler<'a> {
         second: u64,
         payload: &[u8],
     ) -> Result<Option<Message<'_>>, Refusal> {
-        let reply = ffi::store_follow_on(self.store(), message_id, sequence, last, second, payload);
+        self.follow_on_fragment_from(0, message_id, sequence, last, second, payload)
+    }
+
+    /// A follow-on piece came from a neighbour, 0 to 3. Gives the message if no other was missing.
+    ///
+    /// Refuses with the first that holds of 58, 50, 51, 57, 54, 55, 52, 53, 56.
+    pub fn follow_on_fragment_from(
+        &mut self,
+        neighbour: u64,
+        message_id: u32,
+        sequence: u8,
+        last: bool,
+        second: u64,
+        payload: &[u8],
+    ) -> Result<Option<Message<'_>>, Refusal> {
+        let reply = ffi::store_follow_on(self.store(), neighbour, message_id, sequence, last, second, payload);
         self.finished(message_id, reply)
     }
 
-    /// Drops exactly the open messages whose opening piece came 30 seconds before this second or earlier,
-    /// and forgets exactly the finished ones whose finishing piece did.
+    /// Drops exactly the open messages, of every neighbour, whose opening piece came 30 seconds before this
+    /// second or earlier, and forgets exactly the finished ones whose finishing piece did.
     ///
     /// ```
     /// use strawhub::{FragmentStorage, Refusal, STORAGE};
@@ -231,9 +311,9 @@ impl<'a> FragmentHandler<'a> {
         ffi::store_sweep(self.record, second);
     }
 
-    /// What the block at a place of a payload delivers. Refuses as [`Block::read`] does, or as the
-    /// store refuses the piece that the block has; the place of both is the block's. A whole message
-    /// passes no store: its id is not remembered, and it is never refused with 57.
+    /// What the block at a place of a payload delivers; its sender is neighbour 0. Refuses as
+    /// [`Block::read`] does, or as the store refuses the piece that the block has; the place of both is the
+    /// block's. A whole message passes no store: its id is not remembered, and it is never refused with 57.
     ///
     /// [`Block::read`]: crate::Block::read
     ///
@@ -251,8 +331,43 @@ impl<'a> FragmentHandler<'a> {
     /// # Ok::<(), strawhub::Refusal>(())
     /// ```
     pub fn deliver<'m>(&'m mut self, payload: &'m [u8], at: usize, second: u64) -> Result<Delivered<'m>, RefusedAt> {
+        self.deliver_from(0, payload, at, second)
+    }
+
+    /// What the block at a place of a neighbour's payload delivers, as [`FragmentHandler::deliver`] does for
+    /// neighbour 0. A piece of a neighbour above 3 is refused with 58, after the refusals of the block itself;
+    /// a whole message is delivered whatever the number is.
+    ///
+    /// ```
+    /// use strawhub::{Block, Delivered, FragmentStorage, Refusal, STORAGE};
+    ///
+    /// // the last of two pieces, then the first
+    /// let mut payload = [0; 32];
+    /// let last = Block::FollowOnFragment { last: true, message_id: 7, fragment_num: 1, fragment: b"cd" };
+    /// let place = last.write(&mut payload)?;
+    /// let first = Block::FirstFragment { message_type: 20, message_id: 7, expiration: 9, fragment: b"ab" };
+    /// let length = place + first.write(&mut payload[place..])?;
+    ///
+    /// let mut storage = FragmentStorage::over(vec![0; STORAGE])?;
+    /// let mut handler = storage.handler();
+    /// for neighbour in 0..4 {
+    ///     assert_eq!(handler.deliver_from(neighbour, &payload[..length], 0, 100)?, Delivered::Nothing);
+    ///     let letter = handler.deliver_from(neighbour, &payload[..length], place, 100)?.message().unwrap();
+    ///     assert_eq!(letter.payload, b"abcd");
+    /// }
+    /// let refused = handler.deliver_from(4, &payload[..length], place, 100).unwrap_err();
+    /// assert_eq!((refused.refusal, refused.place), (Refusal::NeighbourHigh, place));
+    /// # Ok::<(), Refusal>(())
+    /// ```
+    pub fn deliver_from<'m>(
+        &'m mut self,
+        neighbour: u64,
+        payload: &'m [u8],
+        at: usize,
+        second: u64,
+    ) -> Result<Delivered<'m>, RefusedAt> {
         let mut told = [0; 6];
-        let outcome = ffi::block_deliver(payload, at, self.store(), second, &mut told);
+        let outcome = ffi::block_deliver(payload, at, self.store(), neighbour, second, &mut told);
         if outcome.number != 0 && outcome.number != FINISHED {
             let refusal = Refusal::of(outcome.number);
             let place = outcome.value as usize;

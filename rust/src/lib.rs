@@ -8,7 +8,8 @@
 //! - [`Block`] reads and writes a block, [`blocks`] walks a payload, [`list_blocks`] lists it.
 //! - [`RemoteAckManager`] keeps the packet numbers that came and acknowledges them.
 //! - [`Sender`] gives out the numbers of packets that are sent, and keeps those that are not acknowledged yet.
-//! - [`FragmentHandler`] puts the pieces of I2NP messages together, and refuses late repeats of finished ones.
+//! - [`FragmentHandler`] puts the pieces of I2NP messages together, for up to four neighbours, and refuses late
+//!   repeats of finished ones.
 //!
 //! A call that cannot do what it was asked gives a [`Refusal`], and then no state and no lent byte
 //! has changed.
@@ -49,7 +50,7 @@ mod sender;
 pub use ack::{expand, AckInfo, Ranges, RemoteAckManager};
 pub use block::{blocks, list_blocks, Block, Blocks};
 pub use ffi::Entry;
-pub use fragment::{Delivered, FragmentHandler, FragmentStorage, Message, MESSAGE, RECORD, ROOM, STORAGE};
+pub use fragment::{Delivered, FragmentHandler, FragmentStorage, Message, MESSAGE, NEIGHBOURS, RECORD, ROOM, STORAGE};
 pub use header::{keystream, HeaderKind, HeaderReader, MessageType, ProtocolVersion};
 pub use refusal::{Refusal, RefusedAt};
 pub use sender::{Outstanding, Sender, MOST_OUTSTANDING};

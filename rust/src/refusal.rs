@@ -72,12 +72,13 @@ refusals! {
     ExpansionLong = 46, "the acknowledgement names more numbers than the list holds";
     PieceLength = 50, "a piece is empty or longer than 1,500 bytes";
     PieceNumber = 51, "a follow-on piece has the number 0 or one above 127";
-    StoreFull = 52, "16 messages are open and this is a piece of another";
+    StoreFull = 52, "this neighbour has 4 messages open and this is a piece of another";
     MessageLong = 53, "the message would be longer than 65,535 bytes";
     PieceAgain = 54, "the piece is held already and repeats it exactly";
     PieceConflict = 55, "the piece contradicts the pieces that are held";
     BufferShort = 56, "the message would be finished, but the assembly buffer is too short";
     AlreadyFinished = 57, "the message was finished already and its id is still remembered";
+    NeighbourHigh = 58, "the neighbour number is above 3";
     LentShort = 59, "the lent room or record is too short, or the record names bytes outside the room";
     SenderFull = 70, "256 packets are outstanding";
     NumbersUsedUp = 71, "the last packet number was given out";

@@ -322,11 +322,11 @@ mod reassembly {
     }
 
     #[test]
-    fn seventeenth_message() {
+    fn fifth_message() {
         let mut lent = Lent::new();
-        (0..16).for_each(|id| lent.keeps(first(id, b"a")));
-        assert_eq!(lent.refuses(first(16, b"a")), 52);
-        lent.keeps(next(15, 2, true, b"c"));
+        (0..4).for_each(|id| lent.keeps(first(id, b"a")));
+        assert_eq!(lent.refuses(first(4, b"a")), 52);
+        lent.keeps(next(3, 2, true, b"c"));
     }
 
     #[test]

@@ -196,7 +196,7 @@ fn pieces_are_answered_as_the_model_does() {
     let mut calls = 0;
     for line in include_str!("../../crates/reassembly_check/stdin").lines() {
         let words: Vec<u64> = line.split(' ').map(number).collect();
-        let [what, id, a, b, second, seed, length, room] = words[..8] else { panic!("{line}") };
+        let [what, neighbour, id, a, b, second, seed, length, room] = words[..9] else { panic!("{line}") };
         let bytes = piece(seed, length);
         let assembly = &mut lent.assembly[..room as usize];
         let mut handler = FragmentHandler::resume(&mut lent.record, &mut lent.room, assembly).unwrap();
@@ -205,8 +205,8 @@ fn pieces_are_answered_as_the_model_does() {
                 lent = Lent::new();
                 Ok(None)
             }
-            1 => handler.first_fragment(a as u8, id as u32, b as u32, second, &bytes),
-            2 => handler.follow_on_fragment(id as u32, a as u8, b != 0, second, &bytes),
+            1 => handler.first_fragment_from(neighbour, a as u8, id as u32, b as u32, second, &bytes),
+            2 => handler.follow_on_fragment_from(neighbour, id as u32, a as u8, b != 0, second, &bytes),
             _ => {
                 handler.sweep(second);
                 Ok(None)
@@ -217,8 +217,8 @@ fn pieces_are_answered_as_the_model_does() {
             Ok(Some(m)) => [60, m.message_type.into(), m.expiration.into(), m.payload.len() as u64, sum(m.payload)],
             Err(refusal) => [refusal.number().into(), 0, 0, 0, 0],
         };
-        assert_eq!(said, words[8..], "{line}");
+        assert_eq!(said, words[9..], "{line}");
         calls += 1;
     }
-    assert_eq!(calls, 3_253);
+    assert_eq!(calls, 3_294);
 }

@@ -2,7 +2,7 @@
 
 mod common;
 
-use common::{first, headers, next, packet, packet_as, Lent, K1, K2, NOW};
+use common::{first, first_from, headers, next, next_from, packet, packet_as, Lent, HEADS, K1, K2, NOW, SHARE};
 use std::collections::BTreeSet;
 use strawhub::{
     blocks, expand, list_blocks, Block, Entry, FragmentHandler, FragmentStorage, HeaderKind, HeaderReader, Message,
@@ -161,8 +161,9 @@ fn of_stores() -> Vec<u8> {
     let mut found = vec![lent.refuses(first(1, b"")), lent.refuses(next(1, 0, false, b"a"))];
     lent.keeps(first(1, b"a"));
     found.extend([lent.refuses(first(1, b"a")), lent.refuses(first(1, b"b"))]);
-    (2..17).for_each(|id| lent.keeps(next(id, 1, true, b"z")));
-    found.push(lent.refuses(first(17, b"a")));
+    (2..5).for_each(|id| lent.keeps(next(id, 1, true, b"z")));
+    found.push(lent.refuses(first(5, b"a")));
+    found.extend([lent.refuses(first_from(4, 5, b"a")), lent.refuses(next_from(4, 1, 1, true, b"a"))]);
 
     (1..44).for_each(|n| lent.keeps(next(1, n, false, &[1; 1_500])));
     found.push(lent.refuses(next(1, 44, false, &[1; 1_035])));
@@ -180,8 +181,8 @@ fn of_short_bytes() -> Vec<u8> {
     assert_eq!(FragmentStorage::over(&mut bytes[1..]).err(), Some(Refusal::LentShort));
     assert!(bytes.iter().all(|&byte| byte == 9));
     assert!(FragmentStorage::over(bytes).unwrap().handler().first_fragment(20, 1, 2, NOW, b"a").is_ok());
-    // a byte short, and the length that a record had before finished messages were remembered
-    [(RECORD - 1, ROOM), (8_576, ROOM), (RECORD, ROOM - 1)]
+    // a byte short, and the lengths that a record had before neighbours, and before finished messages were remembered
+    [(RECORD - 1, ROOM), (9_345, ROOM), (8_576, ROOM), (RECORD, ROOM - 1)]
         .map(|(record, room)| {
             let (mut record, mut room, mut assembly) = (vec![9; record], vec![9; room], vec![9; MESSAGE]);
             let refusal = FragmentHandler::new(&mut record, &mut room, &mut assembly).err().unwrap();
@@ -193,13 +194,16 @@ fn of_short_bytes() -> Vec<u8> {
 
 #[test]
 fn a_record_that_names_bytes_outside_is_refused() {
-    let mut lent = Lent::new();
-    lent.record[15 * 24] = 1; // the id of slot 15
-    lent.record[15 * 24 + 18] = 1; // one number is held,
-    lent.record[384 + 15 * 512..][..4].copy_from_slice(&[0xff, 0xff, 1, 0]); // 0: a byte after the slot's 65,535
-    assert_eq!(lent.refuses(next(1, 1, true, b"y")), 59);
-    assert_eq!(lent.refuses(first(1, b"x")), 59);
-    lent.keeps(next(1, 1, false, b"y"));
+    for n in 0..4 {
+        let mut lent = Lent::new();
+        let share = &mut lent.record[n as usize * SHARE..];
+        share[3 * 24] = 1; // the id of the neighbour's slot 3
+        share[3 * 24 + 18] = 1; // one number is held,
+        share[HEADS + 3 * 512..][..4].copy_from_slice(&[0xff, 0xff, 1, 0]); // 0: a byte after the slot's 65,535
+        assert_eq!(lent.refuses(next_from(n, 1, 1, true, b"y")), 59);
+        assert_eq!(lent.refuses(first_from(n, 1, b"x")), 59);
+        lent.keeps(next_from(n, 1, 1, false, b"y"));
+    }
 }
 
 #[test]
@@ -216,22 +220,22 @@ fn a_remembered_id_is_refused_after_50_and_51_and_before_the_rest() {
         assert_eq!(lent.refuses(first(7, b"a")), 57);
     };
     asked(&mut lent);
-    (100..116).for_each(|id| lent.keeps(first(id, b"a")));
+    (100..104).for_each(|id| lent.keeps(first(id, b"a")));
     assert_eq!(lent.refuses(first(8, b"a")), 52);
     asked(&mut lent);
 }
 
 #[test]
-fn a_65th_finished_message_pushes_out_the_first() {
+fn a_17th_finished_message_pushes_out_the_first() {
     let mut lent = Lent::new();
     let finish = |lent: &mut Lent, id| {
         lent.keeps(first(id, b"a"));
         assert_eq!(lent.finishes(next(id, 1, true, b"b"), 2), b"ab");
     };
-    (0..64).for_each(|id| finish(&mut lent, id));
-    assert!((0..64).all(|id| lent.refuses(first(id, b"a")) == 57));
-    finish(&mut lent, 64);
-    assert!((1..65).all(|id| lent.refuses(first(id, b"a")) == 57));
+    (0..16).for_each(|id| finish(&mut lent, id));
+    assert!((0..16).all(|id| lent.refuses(first(id, b"a")) == 57));
+    finish(&mut lent, 16);
+    assert!((1..17).all(|id| lent.refuses(first(id, b"a")) == 57));
     lent.keeps(first(0, b"a"));
 }
 
@@ -250,5 +254,5 @@ fn a_refusal_has_its_number_and_a_sentence_of_its_own() {
     for &refusal in Refusal::ALL {
         assert_eq!(Refusal::from_number(refusal.number().into()), Some(refusal));
     }
-    assert!([0, 11, 45, 58, 60, 69, 74, 256 + 1].into_iter().all(|number| Refusal::from_number(number).is_none()));
+    assert!([0, 11, 45, 60, 69, 74, 256 + 1].into_iter().all(|number| Refusal::from_number(number).is_none()));
 }

@@ -6,7 +6,7 @@
 
 mod common;
 
-use common::{Lent, NOW};
+use common::{Lent, HEADS, NOW, SHARE};
 use strawhub::{blocks, Block, Delivered, Message, Refusal};
 
 const ID: u32 = 0x5eed;
@@ -34,9 +34,9 @@ fn three_pieces_are_no_letter_of_three() {
     let arrived = handler.follow_on_fragment(ID, 1, false, NOW + 1, &page(1)).unwrap();
     assert_eq!(arrived, Some(Message { message_type: 20, message_id: ID, expiration: 77, payload: &letter() }));
 
-    // and the store is empty: 16 new letters can be opened, and the heads of the record are all zero
+    // and the store is empty: each neighbour can open 4 new letters, and the heads of the record are all zero
     assert!(lent.is_empty());
-    assert!(lent.record[..16 * 24].iter().all(|&byte| byte == 0));
+    assert!(lent.record.chunks(SHARE).all(|share| share[..HEADS].iter().all(|&byte| byte == 0)));
 }
 
 #[test]

@@ -580,21 +580,83 @@ static struct store {
 	uint8_t record[STRAWHUB_RECORD], room[STRAWHUB_ROOM], out[STRAWHUB_MESSAGE];
 } store, copy;
 
+#define SHARE (STRAWHUB_RECORD / STRAWHUB_NEIGHBOURS)   /* a neighbour's share of the record, */
+#define ROOM_SHARE (STRAWHUB_ROOM / STRAWHUB_NEIGHBOURS) /* and of the room */
+#define HEADS (4 * 24)                                  /* the heads of its slots come first, then their tables, */
+#define SUMMARY (HEADS + 4 * 512)                       /* then how many messages it has open */
+
+/* The neighbour that pieces come from. The tests of the store run for each of them, alone and with the others busy. */
+static uint64_t neighbour;
+static int others_are_busy;
+
 static struct strawhub_reply first_of(uint32_t id, const char *bytes, size_t length)
 {
 	return strawhub_store_first(store.record, sizeof store.record, store.room, sizeof store.room, store.out,
-	                            sizeof store.out, id, 20, 9, 100, (const uint8_t *)bytes, length);
+	                            sizeof store.out, neighbour, id, 20, 9, 100, (const uint8_t *)bytes, length);
 }
 
 static struct strawhub_reply next_of(uint32_t id, uint8_t number, uint8_t last, const char *bytes, size_t length)
 {
 	return strawhub_store_follow_on(store.record, sizeof store.record, store.room, sizeof store.room, store.out,
-	                                sizeof store.out, id, number, last, 100, (const uint8_t *)bytes, length);
+	                                sizeof store.out, neighbour, id, number, last, 100, (const uint8_t *)bytes, length);
 }
 
 static int unchanged(void)
 {
 	return memcmp(&store, &copy, sizeof store) == 0;
+}
+
+/* A piece of one byte at a second, number 0 as a first piece, with so many bytes of assembly buffer. */
+static uint8_t piece_to(size_t buffer, uint32_t id, uint8_t number, uint64_t second)
+{
+	uint8_t byte = (uint8_t)('a' + number);
+	if (number == 0)
+		return strawhub_store_first(store.record, sizeof store.record, store.room, sizeof store.room, store.out, buffer,
+		                            neighbour, id, 20, 9, second, &byte, 1).number;
+	return strawhub_store_follow_on(store.record, sizeof store.record, store.room, sizeof store.room, store.out, buffer,
+	                                neighbour, id, number, number == 1, second, &byte, 1).number;
+}
+
+/* A message has two pieces: number 1 is the last. */
+static uint8_t piece(uint32_t id, uint8_t number, uint64_t second)
+{
+	return piece_to(sizeof store.out, id, number, second);
+}
+
+static int finishes(uint32_t id, uint64_t second)
+{
+	return piece(id, 0, second) == 0 && piece(id, 1, second) == STRAWHUB_FINISHED;
+}
+
+/* The same of a neighbour that is named. */
+static uint8_t piece_from(uint64_t n, uint32_t id, uint8_t number, uint64_t second)
+{
+	uint64_t kept = neighbour;
+	uint8_t answer;
+	neighbour = n;
+	answer = piece(id, number, second);
+	neighbour = kept;
+	return answer;
+}
+
+static int finishes_from(uint64_t n, uint32_t id, uint64_t second)
+{
+	return piece_from(n, id, 0, second) == 0 && piece_from(n, id, 1, second) == STRAWHUB_FINISHED;
+}
+
+/* Every neighbour but one has 4 messages open and 16 remembered, of the last second, so that no sweep takes them. */
+static void busy_but(uint64_t one)
+{
+	uint64_t n;
+	uint32_t id;
+	for (n = 0; n < STRAWHUB_NEIGHBOURS; n++) {
+		if (n == one)
+			continue;
+		for (id = 4; id < 20; id++)
+			CHECK(finishes_from(n, id, UINT64_MAX));
+		for (id = 0; id < 4; id++)
+			CHECK(piece_from(n, id, 0, UINT64_MAX) == 0);
+	}
 }
 
 static void store_new(void)
@@ -604,6 +666,8 @@ static void store_new(void)
 	CHECK(all(store.record, STRAWHUB_RECORD, 0x5a));
 	CHECK(strawhub_store_new(store.record, STRAWHUB_RECORD) == 0);
 	CHECK(all(store.record, STRAWHUB_RECORD, 0));
+	if (others_are_busy)
+		busy_but(neighbour);
 }
 
 /* The request's story: pieces 0, 2 (the last) and 5 are no letter of three. */
@@ -625,24 +689,24 @@ static void store_pieces(void)
 	static char page[1501];
 	uint32_t id;
 	store_new();
-	for (id = 0; id < 16; id++)
+	for (id = 0; id < 4; id++)
 		CHECK(next_of(id, 2, 1, "c", 1).number == 0);
-	CHECK(next_of(15, 1, 0, page, 1500).number == 0);
+	CHECK(next_of(3, 1, 0, page, 1500).number == 0);
 	copy = store;
 	CHECK(next_of(0, 1, 0, page, 0).number == 50 && unchanged());
 	CHECK(first_of(0, page, 1501).number == 50 && unchanged());
 	CHECK(next_of(0, 0, 0, page, 1).number == 51 && unchanged());
 	CHECK(next_of(0, 128, 0, page, 1).number == 51 && unchanged());
-	CHECK(first_of(16, page, 1).number == 52 && unchanged());
+	CHECK(first_of(4, page, 1).number == 52 && unchanged());
 	CHECK(next_of(0, 2, 1, "c", 1).number == 54 && unchanged());
 	CHECK(next_of(0, 2, 0, "c", 1).number == 55 && unchanged());
-	CHECK(next_of(15, 1, 0, page, 1500).number == 54 && unchanged());
-	CHECK(strawhub_store_first(store.record, STRAWHUB_RECORD, store.room, STRAWHUB_ROOM, store.out, 1501, 15, 20, 9, 100,
-	                           (const uint8_t *)page, 1).number == 56 && unchanged());
-	CHECK(strawhub_store_first(store.record, STRAWHUB_RECORD - 1, store.room, STRAWHUB_ROOM, store.out, 9, 0, 20, 9, 100,
-	                           (const uint8_t *)page, 1).number == 59 && unchanged());
-	CHECK(strawhub_store_follow_on(store.record, STRAWHUB_RECORD, store.room, STRAWHUB_ROOM - 1, store.out, 9, 0, 1, 0,
-	                               100, (const uint8_t *)page, 1).number == 59 && unchanged());
+	CHECK(next_of(3, 1, 0, page, 1500).number == 54 && unchanged());
+	CHECK(strawhub_store_first(store.record, STRAWHUB_RECORD, store.room, STRAWHUB_ROOM, store.out, 1501, neighbour, 3, 20,
+	                           9, 100, (const uint8_t *)page, 1).number == 56 && unchanged());
+	CHECK(strawhub_store_first(store.record, STRAWHUB_RECORD - 1, store.room, STRAWHUB_ROOM, store.out, 9, neighbour, 0,
+	                           20, 9, 100, (const uint8_t *)page, 1).number == 59 && unchanged());
+	CHECK(strawhub_store_follow_on(store.record, STRAWHUB_RECORD, store.room, STRAWHUB_ROOM - 1, store.out, 9, neighbour,
+	                               0, 1, 0, 100, (const uint8_t *)page, 1).number == 59 && unchanged());
 }
 
 static void store_long(void)
@@ -657,10 +721,10 @@ static void store_long(void)
 	CHECK(first_of(1, page, 1035).number == 0);
 }
 
-/* A record that no call made: number 0 of slot 15 is one byte, after the 65,535 of its slot. */
+/* A record that no call made: number 0 of the neighbour's slot 3 is one byte, after the 65,535 of its slot. */
 static void store_outside(void)
 {
-	uint8_t *head = store.record + 15 * 24, *entry = store.record + 384 + 15 * 512;
+	uint8_t *share = store.record + neighbour * SHARE, *head = share + 3 * 24, *entry = share + HEADS + 3 * 512;
 	store_new();
 	head[0] = 1;                   /* the id */
 	head[18] = 1;                  /* numbers held */
@@ -692,28 +756,6 @@ static void store_sweep(void)
 
 /* ---- late repeats: the readings of document 02 by their numbers, 5.11 below at block_deliver ---- */
 
-/* A piece of one byte at a second, number 0 as a first piece, with so many bytes of assembly buffer. */
-static uint8_t piece_to(size_t buffer, uint32_t id, uint8_t number, uint64_t second)
-{
-	uint8_t byte = (uint8_t)('a' + number);
-	if (number == 0)
-		return strawhub_store_first(store.record, sizeof store.record, store.room, sizeof store.room, store.out, buffer,
-		                            id, 20, 9, second, &byte, 1).number;
-	return strawhub_store_follow_on(store.record, sizeof store.record, store.room, sizeof store.room, store.out, buffer,
-	                                id, number, number == 1, second, &byte, 1).number;
-}
-
-/* A message has two pieces: number 1 is the last. */
-static uint8_t piece(uint32_t id, uint8_t number, uint64_t second)
-{
-	return piece_to(sizeof store.out, id, number, second);
-}
-
-static int finishes(uint32_t id, uint64_t second)
-{
-	return piece(id, 0, second) == 0 && piece(id, 1, second) == STRAWHUB_FINISHED;
-}
-
 /* Whether a piece is refused as one of a finished message, and every lent byte stays. */
 static int late(uint32_t id, uint8_t number, uint64_t second)
 {
@@ -738,7 +780,7 @@ static void late_order(void)
 	CHECK(next_of(7, 128, 1, "a", 1).number == 51 && unchanged());
 	CHECK(next_of(7, 1, 1, "a", 0).number == 50 && unchanged());
 	CHECK(first_of(7, "a", 0).number == 50 && unchanged());
-	for (id = 100; id < 116; id++)
+	for (id = 100; id < 104; id++)
 		CHECK(piece(id, 0, 0) == 0);
 	CHECK(late(7, 1, 0) && late(7, 0, 0));
 	CHECK(piece(8, 0, 0) == 52 && unchanged());
@@ -781,24 +823,24 @@ static void late_seconds(void)
 	CHECK(late(7, 0, 0) && late(8, 0, 0) && piece(9, 0, 0) == 0);
 }
 
-/* 5.4, 5.10: a 65th pushes out the first finished in the order of the calls, due or not. */
+/* 5.4, 5.10, 12.3: a 17th pushes out the first finished in the order of the calls, due or not. */
 static void late_pushed(void)
 {
 	uint32_t id;
 	store_new();
-	for (id = 0; id < 64; id++)
+	for (id = 0; id < 16; id++)
 		CHECK(finishes(id, id == 1 ? 5 : 10));
-	for (id = 0; id < 64; id++)
+	for (id = 0; id < 16; id++)
 		CHECK(late(id, 0, 10));
-	CHECK(finishes(64, 10));
-	for (id = 1; id < 65; id++)
+	CHECK(finishes(16, 10));
+	for (id = 1; id < 17; id++)
 		CHECK(late(id, 1, 10));
 	CHECK(piece(0, 0, 10) == 0);
 	store_new();
-	for (id = 0; id < 64; id++)
+	for (id = 0; id < 16; id++)
 		CHECK(finishes(id, 0));
-	CHECK(finishes(64, 99));
-	CHECK(late(1, 0, 99) && late(64, 0, 99) && piece(0, 0, 99) == 0);
+	CHECK(finishes(16, 99));
+	CHECK(late(1, 0, 99) && late(16, 0, 99) && piece(0, 0, 99) == 0);
 }
 
 /* 5.5: a push counts remembered ids; those that a sweep forgot leave no gap, and the others keep their order. */
@@ -807,21 +849,21 @@ static void late_forgotten(void)
 	uint32_t id;
 	store_new();
 	CHECK(finishes(0, 100));
-	for (id = 1; id < 64; id++)
+	for (id = 1; id < 16; id++)
 		CHECK(finishes(id, 0));
 	sweep(30);
-	CHECK(finishes(64, 30) && late(0, 0, 30) && piece(1, 0, 30) == 0);
+	CHECK(finishes(16, 30) && late(0, 0, 30) && piece(1, 0, 30) == 0);
 	store_new();
 	CHECK(finishes(0, 100));
-	for (id = 1; id < 64; id++)
-		CHECK(finishes(id, id % 21 == 0 ? 40 : 0));
+	for (id = 1; id < 16; id++)
+		CHECK(finishes(id, id % 5 == 0 ? 40 : 0));
 	sweep(30);
-	CHECK(late(0, 0, 30) && late(21, 0, 30) && late(42, 0, 30) && late(63, 0, 30));
-	for (id = 64; id < 124; id++)
-		CHECK(finishes(id, 30)); /* 64 are remembered: 0, 21, 42, 63 and these */
-	CHECK(late(0, 0, 30) && finishes(124, 30));
-	CHECK(late(21, 0, 30) && piece(0, 0, 30) == 0 && finishes(125, 30));
-	CHECK(late(42, 0, 30) && late(63, 0, 30) && late(64, 0, 30) && piece(21, 0, 30) == 0);
+	CHECK(late(0, 0, 30) && late(5, 0, 30) && late(10, 0, 30) && late(15, 0, 30));
+	for (id = 16; id < 28; id++)
+		CHECK(finishes(id, 30)); /* 16 are remembered: 0, 5, 10, 15 and these */
+	CHECK(late(0, 0, 30) && finishes(28, 30));
+	CHECK(late(5, 0, 30) && piece(0, 0, 30) == 0 && finishes(29, 30));
+	CHECK(late(10, 0, 30) && late(15, 0, 30) && late(16, 0, 30) && piece(5, 0, 30) == 0);
 }
 
 /* 5.6, 5.7, 5.8: what a sweep dropped or a 56 left open is not remembered; zeros remember nothing, id 0 neither. */
@@ -837,7 +879,7 @@ static void late_unfinished(void)
 	CHECK(piece_to(1, 3, 1, 0) == 56 && unchanged());
 	CHECK(piece(3, 0, 0) == 54 && unchanged());
 	CHECK(piece_to(2, 3, 1, 0) == STRAWHUB_FINISHED && late(3, 0, 0));
-	memset(store.record, 0, sizeof store.record);
+	memset(store.record + neighbour * SHARE, 0, SHARE);
 	CHECK(finishes(0, 0) && late(0, 0, 0) && late(0, 1, 0));
 }
 
@@ -862,36 +904,41 @@ static void late_between(void)
 	store_new();
 	CHECK(finishes(7, 0) && late(7, 0, 0) && piece(8, 0, 0) == 0);
 	CHECK(late(7, 1, 0) && piece(8, 1, 0) == STRAWHUB_FINISHED);
-	for (id = 100; id < 116; id++)
+	for (id = 100; id < 104; id++)
 		CHECK(piece(id, 0, 0) == 0);
-	CHECK(piece(116, 0, 0) == 52 && late(7, 0, 0) && late(8, 1, 0));
+	CHECK(piece(104, 0, 0) == 52 && late(7, 0, 0) && late(8, 1, 0));
 }
 
-/* 5.12: a record of the base's length, 8,576, or of one byte too few is a 59 for every call, and nothing changes. */
+/* 5.12, 12.9: a record of an older length, 8,576 or 9,345, or of one byte too few is a 59 for every call, and so is a
+ * room of 1,048,559 bytes; nothing changes. */
 static void late_record(void)
 {
-	static const size_t lengths[] = {8576, STRAWHUB_RECORD - 1};
+	static const size_t lengths[] = {8576, 9345, STRAWHUB_RECORD - 1};
 	const uint8_t byte = 'a';
 	size_t i;
-	CHECK(STRAWHUB_RECORD == 9345);
+	CHECK(STRAWHUB_RECORD == 9352 && STRAWHUB_ROOM == 1048560);
 	store_new();
 	CHECK(finishes(7, 0) && piece(8, 0, 0) == 0);
 	copy = store;
-	for (i = 0; i < 2; i++) {
+	for (i = 0; i < 3; i++) {
 		size_t n = lengths[i];
 		CHECK(strawhub_store_new(store.record, n) == 59 && unchanged());
-		CHECK(strawhub_store_first(store.record, n, store.room, STRAWHUB_ROOM, store.out, 9, 7, 20, 9, 0, &byte, 1)
-		          .number == 59);
-		CHECK(strawhub_store_follow_on(store.record, n, store.room, STRAWHUB_ROOM, store.out, 9, 8, 1, 1, 0, &byte, 1)
-		          .number == 59);
+		CHECK(strawhub_store_first(store.record, n, store.room, STRAWHUB_ROOM, store.out, 9, neighbour, 7, 20, 9, 0, &byte,
+		                           1).number == 59);
+		CHECK(strawhub_store_follow_on(store.record, n, store.room, STRAWHUB_ROOM, store.out, 9, neighbour, 8, 1, 1, 0,
+		                               &byte, 1).number == 59);
 		CHECK(strawhub_store_sweep(store.record, n, 99) == 0 && unchanged());
 	}
+	CHECK(strawhub_store_first(store.record, STRAWHUB_RECORD, store.room, 1048559, store.out, 9, neighbour, 9, 20, 9, 0,
+	                           &byte, 1).number == 59);
+	CHECK(strawhub_store_follow_on(store.record, STRAWHUB_RECORD, store.room, 1048559, store.out, 9, neighbour, 8, 1, 1, 0,
+	                               &byte, 1).number == 59 && unchanged());
 }
 
 static struct strawhub_outcome deliver(const uint8_t *block, size_t length, size_t at, uint64_t told[6])
 {
 	return strawhub_block_deliver(block, length, at, store.record, sizeof store.record, store.room, sizeof store.room,
-	                              store.out, sizeof store.out, 100, told);
+	                              store.out, sizeof store.out, neighbour, 100, told);
 }
 
 static void block_deliver(void)
@@ -940,6 +987,324 @@ static void block_deliver_late(void)
 	CHECK(memcmp(told, in_payload, sizeof told) == 0 && unchanged());
 }
 
+/* ---- fair slots: the readings of document 02 by their numbers ---- */
+
+/* Neighbour numbers that are too high, and would be 0 to 3 with fewer bits. */
+static const uint64_t too_high[] = {4,
+                                    5,
+                                    255,
+                                    256,
+                                    259,
+                                    65536,
+                                    (uint64_t)1 << 32,
+                                    ((uint64_t)1 << 32) + 3,
+                                    (uint64_t)1 << 63,
+                                    UINT64_MAX - 255,
+                                    UINT64_MAX};
+
+#define TOO_HIGH (sizeof too_high / sizeof too_high[0])
+
+/* How many messages each neighbour has open, by the record. */
+static int summary_is(uint8_t n0, uint8_t n1, uint8_t n2, uint8_t n3)
+{
+	const uint8_t *at = store.record + SUMMARY;
+	return at[0] == n0 && at[SHARE] == n1 && at[2 * SHARE] == n2 && at[3 * SHARE] == n3;
+}
+
+/* Whether no byte of record and room has changed but in a neighbour's own shares. */
+static int others_stay(uint64_t n)
+{
+	size_t at = n * SHARE, end = at + SHARE, room_at = n * ROOM_SHARE, room_end = room_at + ROOM_SHARE;
+	return memcmp(store.record, copy.record, at) == 0 &&
+	       memcmp(store.record + end, copy.record + end, STRAWHUB_RECORD - end) == 0 &&
+	       memcmp(store.room, copy.room, room_at) == 0 &&
+	       memcmp(store.room + room_end, copy.room + room_end, STRAWHUB_ROOM - room_end) == 0;
+}
+
+/* What neighbour n's piece of so many bytes is refused with, as a first and as a follow-on piece, over so many bytes of
+ * record and room; 0 where the two differ, or a lent byte has changed. */
+static unsigned refused(size_t record, size_t room, uint64_t n, uint8_t number, size_t length)
+{
+	static const uint8_t bytes[1501];
+	struct strawhub_reply f = strawhub_store_first(store.record, record, store.room, room, store.out, sizeof store.out,
+	                                               n, 7, 20, 9, 100, bytes, length);
+	struct strawhub_reply r = strawhub_store_follow_on(store.record, record, store.room, room, store.out,
+	                                                   sizeof store.out, n, 7, number, 1, 100, bytes, length);
+	return f.number == r.number && unchanged() ? r.number : 0;
+}
+
+/* 12.1, 12.5: 59, then 58 in all 64 bits, then 50; 58 comes before 51 too, and changes no lent byte. */
+static void fair_order(void)
+{
+	size_t i;
+	store_new();
+	busy_but(4);
+	copy = store;
+	for (i = 0; i < TOO_HIGH; i++) {
+		uint64_t n = too_high[i];
+		CHECK(refused(STRAWHUB_RECORD, STRAWHUB_ROOM - 1, n, 1, 0) == 59);
+		CHECK(refused(STRAWHUB_RECORD - 1, STRAWHUB_ROOM, n, 1, 0) == 59);
+		CHECK(refused(0, 0, n, 1, 1) == 59);
+		CHECK(refused(STRAWHUB_RECORD, STRAWHUB_ROOM, n, 1, 0) == 58);
+		CHECK(refused(STRAWHUB_RECORD, STRAWHUB_ROOM, n, 1, 1501) == 58);
+		CHECK(refused(STRAWHUB_RECORD, STRAWHUB_ROOM, n, 0, 1) == 58);
+		CHECK(refused(STRAWHUB_RECORD, STRAWHUB_ROOM, n, 128, 1) == 58);
+		CHECK(refused(STRAWHUB_RECORD, STRAWHUB_ROOM, n, 1, 1) == STRAWHUB_NEIGHBOUR_HIGH);
+	}
+	for (i = 0; i < STRAWHUB_NEIGHBOURS; i++) {
+		CHECK(refused(STRAWHUB_RECORD, STRAWHUB_ROOM - 1, i, 1, 0) == 59);
+		CHECK(refused(STRAWHUB_RECORD, STRAWHUB_ROOM, i, 0, 0) == 50);
+		CHECK(refused(STRAWHUB_RECORD, STRAWHUB_ROOM, i, 1, 1) == 57);
+	}
+}
+
+/* 12.2, 12.10: ids hold within a neighbour, remembered ones too. In the end none is open; 7 is remembered for 0 and 1. */
+static void fair_ids(void)
+{
+	uint32_t n;
+	store_new();
+	CHECK(finishes_from(0, 7, 0) && finishes_from(1, 7, 0));
+	CHECK(piece_from(0, 7, 0, 0) == 57 && piece_from(1, 7, 0, 0) == 57 && piece_from(2, 7, 0, 0) == 0);
+	store_new();
+	CHECK(piece_from(0, 7, 0, 0) == 0 && piece_from(1, 7, 0, 0) == 0 && summary_is(1, 1, 0, 0));
+	CHECK(piece_from(0, 7, 1, 0) == STRAWHUB_FINISHED && summary_is(0, 1, 0, 0));
+	CHECK(piece_from(1, 7, 1, 0) == STRAWHUB_FINISHED && summary_is(0, 0, 0, 0));
+	for (n = 0; n < STRAWHUB_NEIGHBOURS; n++)
+		CHECK(all(store.record + n * SHARE, HEADS, 0));
+	copy = store;
+	CHECK(piece_from(0, 7, 1, 0) == 57 && piece_from(1, 7, 1, 0) == 57 && unchanged());
+	CHECK(finishes_from(2, 7, 0) && finishes_from(3, 7, 0));
+}
+
+/* Equal ids with other bytes: each neighbour gets its own message. */
+static void fair_bytes(void)
+{
+	static const char *const pages[] = {"aA", "bB", "cC", "dD"};
+	store_new();
+	for (neighbour = 0; neighbour < 4; neighbour++)
+		CHECK(first_of(7, pages[neighbour], 1).number == 0);
+	for (neighbour = 0; neighbour < 4; neighbour++) {
+		CHECK(next_of(7, 1, 1, pages[neighbour] + 1, 1).number == STRAWHUB_FINISHED);
+		CHECK(memcmp(store.out, pages[neighbour], 2) == 0);
+	}
+	neighbour = 0;
+}
+
+/* 12.3: 16 remembered ids for each neighbour; a 17th pushes out that neighbour's first, and the others' lists stay. */
+static void fair_memory(void)
+{
+	uint32_t id, n;
+	store_new();
+	for (n = 0; n < 4; n++)
+		for (id = 0; id < 16; id++)
+			CHECK(finishes_from(n, id, 0));
+	for (n = 0; n < 4; n++)
+		for (id = 0; id < 16; id++)
+			CHECK(piece_from(n, id, 0, 0) == 57); /* 64 in all */
+	copy = store;
+	CHECK(finishes_from(0, 16, 0) && others_stay(0));
+	CHECK(piece_from(0, 1, 0, 0) == 57 && piece_from(0, 16, 0, 0) == 57 && piece_from(0, 0, 0, 0) == 0);
+	for (n = 1; n < 4; n++)
+		CHECK(piece_from(n, 0, 0, 0) == 57 && piece_from(n, 16, 0, 0) == 0);
+}
+
+/* 12.4: one sweep for all, of open messages and of remembered ones. */
+static void fair_sweep(void)
+{
+	uint64_t n;
+	store_new();
+	CHECK(piece_from(0, 1, 0, 0) == 0 && piece_from(3, 1, 0, 10) == 0 && summary_is(1, 0, 0, 1));
+	sweep(30);
+	CHECK(summary_is(0, 0, 0, 1));
+	sweep(40);
+	CHECK(summary_is(0, 0, 0, 0));
+	for (n = 0; n < 4; n++) {
+		CHECK(finishes_from(n, 7, n) && piece_from(n, 1, 0, n) == 0 && piece_from(n, 2, 0, 10) == 0);
+		CHECK(piece_from(n, 3, 0, 0) == 0 && piece_from(n, 4, 0, n) == 0);
+	}
+	CHECK(summary_is(4, 4, 4, 4));
+	sweep(31);
+	CHECK(summary_is(1, 1, 3, 3));
+	CHECK(piece_from(0, 7, 0, 31) == 0 && piece_from(1, 7, 0, 31) == 0);
+	CHECK(piece_from(2, 7, 0, 31) == 57 && piece_from(3, 7, 0, 31) == 57);
+}
+
+/* 12.6: 52 means that this neighbour has 4 open, and 57 comes before it. */
+static void fair_full(void)
+{
+	uint32_t id;
+	store_new();
+	CHECK(finishes_from(0, 9, 0));
+	for (id = 0; id < 4; id++)
+		CHECK(piece_from(0, id, 0, 0) == 0);
+	copy = store;
+	CHECK(piece_from(0, 9, 0, 0) == 57 && piece_from(0, 8, 0, 0) == 52 && piece_from(0, 8, 1, 0) == 52 && unchanged());
+	CHECK(piece_from(1, 8, 0, 0) == 0 && piece_from(0, 8, 0, 0) == 52);
+	CHECK(piece_from(0, 0, 1, 0) == STRAWHUB_FINISHED && piece_from(0, 8, 0, 0) == 0 && piece_from(0, 5, 0, 0) == 52);
+}
+
+/* One noisy neighbour has 4 messages open, and no more; each of the others still opens 4 and finishes them. */
+static void fair_flood(void)
+{
+	uint64_t n;
+	uint32_t id, noise = 1000;
+	store_new();
+	for (; noise < 1100; noise++)
+		CHECK(piece_from(2, noise, 0, 0) == (noise < 1004 ? 0 : 52));
+	CHECK(summary_is(0, 0, 4, 0));
+	for (id = 0; id < 4; id++)
+		for (n = 0; n < 4; n++) {
+			copy = store;
+			if (n == 2)
+				CHECK(piece_from(2, noise++, 0, 0) == 52 && unchanged());
+			else
+				CHECK(piece_from(n, id, 0, 0) == 0 && others_stay(n));
+		}
+	CHECK(summary_is(4, 4, 4, 4));
+	for (n = 0; n < 4; n++)
+		CHECK(piece_from(n, 4, 0, 0) == 52);
+	for (id = 0; id < 4; id++)
+		for (n = 0; n < 4; n++) {
+			copy = store;
+			if (n != 2)
+				CHECK(piece_from(n, id, 1, 0) == STRAWHUB_FINISHED && others_stay(n));
+		}
+	CHECK(summary_is(0, 0, 4, 0));
+}
+
+/* 12.9: the room's last byte is that of neighbour 3's fourth message. */
+static void fair_room(void)
+{
+	static char page[1500];
+	uint32_t id;
+	uint8_t number;
+	memset(page, 'p', sizeof page);
+	store_new();
+	neighbour = 3;
+	for (id = 0; id < 3; id++)
+		CHECK(piece(id, 0, 0) == 0);
+	for (number = 1; number < 44; number++)
+		CHECK(next_of(3, number, 0, page, 1500).number == 0);
+	copy = store;
+	CHECK(store.room[STRAWHUB_ROOM - 1] == 0x5a && first_of(3, page, 1035).number == 0);
+	CHECK(store.room[STRAWHUB_ROOM - 1] == 'p' && others_stay(3));
+	neighbour = 0;
+}
+
+/* 12.7: the summary is in the record. A message that opens raises it, one that finishes or is swept lowers it, and
+ * nothing else changes it. */
+static void fair_summary(void)
+{
+	store_new();
+	CHECK(piece_from(1, 7, 0, 0) == 0 && summary_is(0, 1, 0, 0));
+	CHECK(piece_from(1, 7, 2, 0) == 0 && summary_is(0, 1, 0, 0)); /* kept, and not the last */
+	CHECK(piece_from(1, 8, 1, 5) == 0 && summary_is(0, 2, 0, 0));
+	CHECK(piece_from(1, 8, 1, 5) == 54 && piece_from(1, 8, 2, 5) == 55 && summary_is(0, 2, 0, 0));
+	neighbour = 1;
+	CHECK(piece_to(1, 8, 0, 5) == 56 && summary_is(0, 2, 0, 0));
+	neighbour = 0;
+	CHECK(piece_from(1, 8, 0, 5) == STRAWHUB_FINISHED && summary_is(0, 1, 0, 0));
+	CHECK(piece_from(1, 8, 0, 5) == 57 && summary_is(0, 1, 0, 0));
+	sweep(29);
+	CHECK(summary_is(0, 1, 0, 0));
+	sweep(30);
+	CHECK(summary_is(0, 0, 0, 0));
+	sweep(31);
+	CHECK(summary_is(0, 0, 0, 0));
+}
+
+/* 12.8, A.1: a summary that no call made. Every call ends, nothing wraps, and the other neighbours see nothing of it. */
+static void fair_forged(void)
+{
+	uint8_t *open = store.record + 2 * SHARE + SUMMARY;
+	uint32_t id;
+	unsigned byte;
+	for (byte = 0; byte < 256; byte++) {
+		store_new();
+		CHECK(piece_from(1, 1, 0, 0) == 0 && piece_from(2, 1, 0, 0) == 0);
+		*open = (uint8_t)byte;
+		copy = store;
+		CHECK(piece_from(2, 2, 0, 0) == (byte < 4 ? 0 : 52) && others_stay(2));
+		CHECK(piece_from(2, 1, 0, 0) == 54 && piece_from(2, 1, 1, 0) == STRAWHUB_FINISHED && others_stay(2));
+		CHECK(*open == (byte < 4 ? byte : byte - 1));
+		sweep(30);
+		CHECK(piece_from(2, 1, 0, 30) == (byte > 4 ? 52 : 0));
+		CHECK(finishes_from(1, 2, 30) && finishes_from(0, 2, 30));
+	}
+	store_new(); /* 4 slots in use, and the summary says 0: no slot is free, and nothing goes below 0 */
+	for (id = 0; id < 4; id++)
+		CHECK(piece_from(2, id, 0, 0) == 0);
+	*open = 0;
+	copy = store;
+	CHECK(piece_from(2, 4, 0, 0) == 52 && unchanged());
+	CHECK(piece_from(2, 0, 1, 0) == STRAWHUB_FINISHED && *open == 0);
+	sweep(30);
+	CHECK(*open == 0 && all(store.record + 2 * SHARE, HEADS, 0));
+	for (id = 4; id < 8; id++)
+		CHECK(piece_from(2, id, 0, 30) == 0);
+	CHECK(*open == 4 && piece_from(2, 8, 0, 30) == 52);
+	memset(store.record, 0xff, sizeof store.record);
+	for (id = 0; id < 4; id++)
+		CHECK(piece_from(id, 7, 0, 30) == 52 && piece_from(id, 0xffffffffu, 0, 30) == 59);
+	sweep(UINT64_MAX);
+}
+
+/* A block's own refusals come before 58; a block that is no piece passes no store, so it gets neither 58 nor 59. */
+static void fair_deliver(void)
+{
+	static const uint8_t last[] = {5, 0, 7, 3, 0, 0, 0, 7, 'c', 'd'}, time[] = {0, 0, 4, 0, 0, 0, 1};
+	static const uint8_t whole[] = {3, 0, 11, 11, 0, 0, 0, 7, 0, 0, 0, 6, 'h', 'i'};
+	static const uint64_t none[6], rebuilt[6] = {2, 20, 7, 9, 0, 4}, in_payload[6] = {1, 11, 7, 6, 12, 2};
+	uint64_t told[6];
+	size_t i;
+	store_new();
+	copy = store;
+	for (i = 0; i < TOO_HIGH; i++) {
+		neighbour = too_high[i];
+		memset(told, 0x77, sizeof told);
+		CHECK(is(deliver(payload, sizeof payload - 1, 16, told), 5, 16));
+		CHECK(is(deliver(payload, sizeof payload, 16, told), 58, 16));
+		CHECK(is(deliver(last, sizeof last, 0, told), 58, 0));
+		CHECK(is(strawhub_block_deliver(last, sizeof last, 0, store.record, STRAWHUB_RECORD, store.room,
+		                                STRAWHUB_ROOM - 1, store.out, 9, neighbour, 100, told), 59, 0));
+		CHECK(all(told, sizeof told, 0x77));
+		CHECK(is(deliver(whole, sizeof whole, 0, told), 0, 0) && memcmp(told, in_payload, sizeof told) == 0);
+		CHECK(is(deliver(time, sizeof time, 0, told), 0, 0) && memcmp(told, none, sizeof told) == 0);
+		CHECK(is(strawhub_block_deliver(whole, sizeof whole, 0, NULL, 0, NULL, 0, NULL, 0, neighbour, 100, told), 0, 0));
+		CHECK(memcmp(told, in_payload, sizeof told) == 0 && unchanged());
+	}
+	for (neighbour = 0; neighbour < 4; neighbour++)
+		CHECK(is(deliver(payload, sizeof payload, 16, told), 0, 0) && memcmp(told, none, sizeof told) == 0);
+	CHECK(summary_is(1, 1, 1, 1));
+	for (neighbour = 0; neighbour < 4; neighbour++) {
+		CHECK(is(deliver(last, sizeof last, 0, told), 60, 0) && memcmp(told, rebuilt, sizeof told) == 0);
+		CHECK(memcmp(store.out, "abcd", 4) == 0);
+	}
+	CHECK(summary_is(0, 0, 0, 0));
+	neighbour = 0;
+}
+
+/* What holds of every neighbour. */
+static void store_of_a_neighbour(void)
+{
+	story();
+	store_pieces();
+	store_long();
+	store_outside();
+	store_sweep();
+	late_order();
+	late_due();
+	late_seconds();
+	late_pushed();
+	late_forgotten();
+	late_unfinished();
+	late_ids();
+	late_between();
+	late_record();
+	block_deliver();
+	block_deliver_late();
+}
+
 int main(void)
 {
 	keystream();
@@ -962,22 +1327,22 @@ int main(void)
 	sender_forged();
 	sender_reports();
 	sender_progress();
-	story();
-	store_pieces();
-	store_long();
-	store_outside();
-	store_sweep();
-	late_order();
-	late_due();
-	late_seconds();
-	late_pushed();
-	late_forgotten();
-	late_unfinished();
-	late_ids();
-	late_between();
-	late_record();
-	block_deliver();
-	block_deliver_late();
+	for (others_are_busy = 0; others_are_busy < 2; others_are_busy++)
+		for (neighbour = 0; neighbour < STRAWHUB_NEIGHBOURS; neighbour++)
+			store_of_a_neighbour();
+	others_are_busy = 0;
+	neighbour = 0;
+	fair_order();
+	fair_ids();
+	fair_bytes();
+	fair_memory();
+	fair_sweep();
+	fair_full();
+	fair_flood();
+	fair_room();
+	fair_summary();
+	fair_forged();
+	fair_deliver();
 	printf("calls: %u passed, %u failed\n", passed, failed);
 	return failed != 0;
 }

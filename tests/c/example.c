@@ -1,4 +1,4 @@
-/* The blocks of a payload, and the message that its pieces make. */
+/* The blocks of a payload, and the message that its pieces make: a store for one session, which is its neighbour 0. */
 #include "strawhub.h"
 
 #include <stdio.h>
@@ -25,7 +25,7 @@ int main(void)
 	for (i = 0; i < o.value; i++) {
 		uint64_t told[6];
 		struct strawhub_outcome d = strawhub_block_deliver(payload, length, list[i].place, record, sizeof record, room,
-		                                                   sizeof room, message, sizeof message, 1700000000, told);
+		                                                   sizeof room, message, sizeof message, 0, 1700000000, told);
 		printf("%d: type %d, size %d", (int)list[i].place, list[i].kind, list[i].size);
 		if (d.number == STRAWHUB_FINISHED)
 			printf(", message %d: %.*s\n", (int)told[2], (int)told[5], (const char *)message + told[4]);

@@ -3,7 +3,7 @@
  * Every lent slice stands flush against a page that cannot be touched, before it or after it, so that a byte too far
  * stops the run. After a refusal all lent bytes are compared with a copy; after a success those that the call may
  * not write, and what it says that it left. Trackers, senders and stores go on from call to call, some of them
- * forged. */
+ * forged. A store that is not forged is held to its summary after each call: as many messages as slots are in use. */
 #define _DEFAULT_SOURCE
 #include "strawhub.h"
 
@@ -164,11 +164,32 @@ static void stays(const struct fence *f, size_t from)
 		stop("bytes were changed that have to stay");
 }
 
+/* ---- neighbours: each has a quarter of a store's record and of its room ---- */
+
+#define SHARE (STRAWHUB_RECORD / STRAWHUB_NEIGHBOURS)
+#define ROOM_SHARE (STRAWHUB_ROOM / STRAWHUB_NEIGHBOURS)
+
+static uint64_t neighbour; /* the one that pieces come from */
+
+/* One of the four, as a rule; else a number that is too high, and with fewer bits would be one of them or not. */
+static void any_neighbour(void)
+{
+	static const uint64_t high[] = {4, 5, 255, 256, 257, 65536, (uint64_t)1 << 32, ((uint64_t)1 << 32) + 3,
+	                                (uint64_t)1 << 63, UINT64_MAX};
+	neighbour = one_in(60) ? high[below(sizeof high / sizeof high[0])] : one_in(500) ? any() : below(4);
+}
+
+/* The neighbour whose messages are sent. */
+static size_t sending(void)
+{
+	return (size_t)(neighbour % STRAWHUB_NEIGHBOURS);
+}
+
 /* ---- the store's room: its pages are only read until a call writes one, which is then kept for comparing ---- */
 
 #define PAGES ((STRAWHUB_ROOM + PAGE - 1) / PAGE)
 
-static uint8_t *store_room;
+static uint8_t *store_room, *room_at; /* the pages, and where the room that is lent begins */
 static uint8_t kept[PAGES][PAGE];
 static uint8_t *dirty[PAGES];
 static size_t dirties;
@@ -201,12 +222,27 @@ static void guard_room(void)
 		stop("the room cannot be guarded");
 }
 
+/* The bytes of a page from one place of the room to another are as they were. */
+static void page_stays(size_t page, const uint8_t *from, const uint8_t *to, const char *why)
+{
+	const uint8_t *start = dirty[page], *end = start + PAGE;
+	from = from < start ? start : from;
+	to = to < end ? to : end;
+	if (from < to && memcmp(from, kept[page] + (from - start), (size_t)(to - from)) != 0)
+		stop(why);
+}
+
+/* A refusal leaves the room, and any call the shares of the other neighbours. */
 static void close_room(int refused)
 {
+	const uint8_t *end = store_room + PAGES * PAGE;
 	while (dirties) {
+		const uint8_t *share = room_at + sending() * ROOM_SHARE;
 		dirties--;
-		if (refused && memcmp(dirty[dirties], kept[dirties], PAGE) != 0)
-			stop("a refusal changed the room");
+		if (refused)
+			page_stays(dirties, store_room, end, "a refusal changed the room");
+		page_stays(dirties, store_room, share, "another neighbour's room was changed");
+		page_stays(dirties, share + ROOM_SHARE, end, "another neighbour's room was changed");
 		if (mprotect(dirty[dirties], PAGE, PROT_READ) != 0)
 			stop("a page cannot be closed");
 	}
@@ -340,29 +376,33 @@ static void put(uint8_t *at, unsigned width, uint64_t x)
 	}
 }
 
-/* Messages are told by their id: how many pieces, how long each is. Some are longer than a message may be. 22 are on
- * their way at a time; when one is finished, another of the same shape takes its place, and its pieces still come. */
-#define ON_THEIR_WAY 22
+/* Messages are told by their id: how many pieces, how long each is. Some are longer than a message may be. Of each
+ * neighbour 6 are on their way at a time, under the same ids as another's; when one is finished, another of the same
+ * shape takes its place, and its pieces still come. */
+#define ON_THEIR_WAY 6
 #define SHAPES 40 /* ids that are so far apart have the same shape */
-#define DONE 80   /* more than a store remembers */
+#define DONE 20   /* more than a store remembers of a neighbour */
 
-static uint32_t rounds[ON_THEIR_WAY], done[DONE];
-static size_t dones;
+static struct {
+	uint32_t rounds[ON_THEIR_WAY], done[DONE];
+	size_t dones;
+} sent_by[STRAWHUB_NEIGHBOURS];
 
 static uint32_t any_id(void)
 {
-	uint32_t i = (uint32_t)below(ON_THEIR_WAY);
+	size_t n = one_in(200) ? below(STRAWHUB_NEIGHBOURS) : sending(); /* rarely one that another neighbour sends */
+	size_t i = below(ON_THEIR_WAY), dones = sent_by[n].dones;
 	if (dones && one_in(20)) {
 		size_t newest = one_in(50) ? DONE : 9; /* rarely one that may be forgotten */
-		return done[(dones - 1 - below(dones < newest ? dones : newest)) % DONE];
+		return sent_by[n].done[(dones - 1 - below(dones < newest ? dones : newest)) % DONE];
 	}
-	return i + SHAPES * rounds[i];
+	return (uint32_t)i + 1 + SHAPES * sent_by[n].rounds[i];
 }
 
 static void is_finished(uint32_t id)
 {
-	uint32_t i = id % SHAPES;
-	done[dones++ % DONE] = id;
+	uint32_t i = id % SHAPES - 1, *rounds = sent_by[sending()].rounds;
+	sent_by[sending()].done[sent_by[sending()].dones++ % DONE] = id;
 	if (i < ON_THEIR_WAY && id / SHAPES == rounds[i])
 		rounds[i]++;
 }
@@ -384,12 +424,12 @@ static size_t piece_length(uint32_t id, uint8_t number)
 	return id % 5 == 0 ? 1500 : 1 + (id * 7 + number * 13) % 90;
 }
 
-/* The same bytes for the same piece, but for a few. */
+/* The same bytes for the same piece of a neighbour, but for a few. */
 static void piece_bytes(uint8_t *at, size_t n, uint32_t id, uint8_t number)
 {
 	size_t i;
 	for (i = 0; i < n; i++)
-		at[i] = (uint8_t)(i * 3 + id * 31 + number);
+		at[i] = (uint8_t)(i * 3 + id * 31 + number + sending() * 64);
 	if (n && one_in(40))
 		mutate(at, n);
 }
@@ -960,44 +1000,47 @@ static void sender_outstanding(void)
 
 static uint8_t record_now[STRAWHUB_RECORD];
 static int room_first; /* the room stands flush against the page before it */
-static uint8_t *room_at;
 static size_t room_length;
 
-#define MEMORY 8576 /* where the memory of finished messages begins */
+/* A neighbour's share of the record: the heads of 4 slots, their tables, how many messages are open, the memory of
+ * finished ones: 16 ids, 16 seconds, and how many of them are in use. */
+#define HEAD_SIZE 24
+#define SUMMARY (4 * HEAD_SIZE + 4 * 512)
+#define MEMORY (SUMMARY + 1)
 
 static int forged; /* since the last new store */
 
-/* 60 to 64 messages, finished in the last 40 seconds, as calls would have left them. */
-static void remember_many(void)
+/* 12 to 16 messages of a neighbour, finished in the last 40 seconds, as calls would have left them. */
+static void remember_many(uint8_t *share)
 {
-	uint8_t *at = record_now + MEMORY;
-	size_t n = 60 + below(5), k, i;
+	uint8_t *at = share + MEMORY;
+	size_t n = 12 + below(5), k;
 	for (k = 0; k < n; k++) {
-		uint64_t second = second_now - below(40);
-		at[4 * k] = (uint8_t)k;
-		at[4 * k + 3] = 0x80; /* above every id that any_id gives */
-		for (i = 0; i < 8; i++)
-			at[64 * 4 + 8 * k + i] = (uint8_t)(second >> 8 * i);
+		put_little(at + 4 * k, 4, 0x80000000u + k); /* above every id that any_id gives */
+		put_little(at + 16 * 4 + 8 * k, 8, second_now - below(40));
 	}
-	record_now[sizeof record_now - 1] = (uint8_t)n;
+	share[SHARE - 1] = (uint8_t)n;
 }
 
 static void forge_record(void)
 {
-	int all_bytes = one_in(15000), some = one_in(4000), heads = one_in(4000), memory = one_in(4000);
+	uint8_t *share = record_now + below(STRAWHUB_NEIGHBOURS) * SHARE;
+	int all_bytes = one_in(15000), some = one_in(4000), heads = one_in(4000), memory = one_in(4000), open = one_in(4000);
 	if (all_bytes)
 		any_bytes(record_now, sizeof record_now);
 	if (some)
 		mutate(record_now, sizeof record_now);
 	if (heads)
-		mutate(record_now, 16 * 24);
+		mutate(share, 4 * HEAD_SIZE);
+	if (open)
+		share[SUMMARY] = (uint8_t)(one_in(3) ? 0 : one_in(2) ? 255 : any()); /* how many are open */
 	if (memory)
-		mutate(record_now + MEMORY, sizeof record_now - MEMORY);
+		mutate(share + MEMORY, SHARE - MEMORY);
 	if (memory && one_in(2))
-		record_now[sizeof record_now - 1] = (uint8_t)any(); /* how many are remembered */
-	forged = forged || all_bytes || some || heads || memory;
+		share[SHARE - 1] = (uint8_t)any(); /* how many are remembered */
+	forged = forged || all_bytes || some || heads || memory || open;
 	if (one_in(4000) && !forged)
-		remember_many();
+		remember_many(share);
 	if (one_in(10000)) {
 		memset(record_now, 0, sizeof record_now);
 		room_first = !room_first;
@@ -1017,12 +1060,48 @@ static uint8_t *lend_record(void)
 	return at;
 }
 
+/* How many slots of a share are in use. */
+static size_t open_in(const uint8_t *share)
+{
+	size_t i, n = 0;
+	for (i = 0; i < 4; i++)
+		n += share[i * HEAD_SIZE + 18] != 0; /* how many numbers are held */
+	return n;
+}
+
 static void keep_record(void)
 {
+	size_t i;
 	if (record.n < sizeof record_now)
 		return;
 	memcpy(record_now, record.at, sizeof record_now);
 	stays(&record, sizeof record_now);
+	for (i = 0; i < STRAWHUB_NEIGHBOURS; i++)
+		must(forged || record_now[i * SHARE + SUMMARY] == open_in(record_now + i * SHARE), "a summary that is no count");
+}
+
+/* A piece changes nothing of the record but its neighbour's share. */
+static void others_stay(void)
+{
+	size_t at = sending() * SHARE;
+	if (record.n < sizeof record_now)
+		return;
+	must(memcmp(record.at, record.copy, at) == 0, "another neighbour's share was changed");
+	stays(&record, at + SHARE);
+}
+
+/* What a piece is answered before it is looked at: 59, 58, or 0 for neither. */
+static unsigned lent_due(void)
+{
+	return record.n < STRAWHUB_RECORD || room_length < STRAWHUB_ROOM ? 59 : neighbour > 3 ? 58 : 0;
+}
+
+/* Whether a piece may be answered so: 58 for a neighbour above 3 alone, 52 for one with 4 messages open alone. */
+static void is_fair(uint64_t number)
+{
+	unsigned due = lent_due();
+	must(due == 0 ? number != 58 : number == due, "another number for this neighbour");
+	must(forged || number != 52 || open_in(record.copy + sending() * SHARE) == 4, "52 with a slot free");
 }
 
 /* Flush against the page before it or the one after; rarely too short, or longer than it has to be. */
@@ -1037,7 +1116,7 @@ static uint8_t *lend_out(void)
 	return lend(&out, one_in(20) ? below(65601) : one_in(20) ? below(200) : STRAWHUB_MESSAGE, 1);
 }
 
-#define KEEPING " 0 50 51 52 53 54 55 56 57 59 60 "
+#define KEEPING " 0 50 51 52 53 54 55 56 57 58 59 60 "
 
 /* A finished message is remembered: another piece of it is refused. */
 static void finished(uint32_t id)
@@ -1046,15 +1125,17 @@ static void finished(uint32_t id)
 	is_finished(id);
 	if (forged) /* another slot may be open under this id */
 		return;
-	must(strawhub_store_first(record.at, record.n, room_at, room_length, out.at, out.n, id, 20, 0, second_now, &byte, 1)
-	             .number == STRAWHUB_ALREADY_FINISHED, "a finished message is not remembered");
+	must(strawhub_store_first(record.at, record.n, room_at, room_length, out.at, out.n, neighbour, id, 20, 0, second_now,
+	                          &byte, 1).number == STRAWHUB_ALREADY_FINISHED, "a finished message is not remembered");
 }
 
 static void keep_reply(struct strawhub_reply r, uint32_t id)
 {
 	must(may_answer(r.number, KEEPING), "another number");
+	is_fair(r.number);
 	answer(r.number);
 	keep_record();
+	others_stay();
 	stays(&out, r.number == STRAWHUB_FINISHED ? r.length : 0);
 	if (r.number == STRAWHUB_FINISHED)
 		finished(id);
@@ -1083,24 +1164,32 @@ static void store_new(void)
 static void store_first(void)
 {
 	uint8_t *at = lend_record(), *o = lend_out();
-	uint32_t id = any_id();
-	const uint8_t *b = lend_piece(id, 0);
+	const uint8_t *b;
+	uint32_t id;
+	any_neighbour();
+	id = any_id();
+	b = lend_piece(id, 0);
 	lend_room();
 	copy_lent();
-	keep_reply(strawhub_store_first(at, record.n, room_at, room_length, o, out.n, id, 20, id * 3, second_now, b, bytes.n),
+	keep_reply(strawhub_store_first(at, record.n, room_at, room_length, o, out.n, neighbour, id, 20, id * 3, second_now, b,
+	                                bytes.n),
 	           id);
 }
 
 static void store_follow_on(void)
 {
-	uint8_t *at = lend_record(), *o = lend_out();
-	uint32_t id = any_id();
-	uint8_t number = any_piece(id), last = one_in(400) ? (uint8_t)any() : number == last_of(id);
-	const uint8_t *b = lend_piece(id, number);
+	uint8_t *at = lend_record(), *o = lend_out(), number, last;
+	const uint8_t *b;
+	uint32_t id;
+	any_neighbour();
+	id = any_id();
+	number = any_piece(id);
+	last = one_in(400) ? (uint8_t)any() : number == last_of(id);
+	b = lend_piece(id, number);
 	lend_room();
 	copy_lent();
-	keep_reply(strawhub_store_follow_on(at, record.n, room_at, room_length, o, out.n, id, number, last, second_now, b,
-	                                    bytes.n),
+	keep_reply(strawhub_store_follow_on(at, record.n, room_at, room_length, o, out.n, neighbour, id, number, last,
+	                                    second_now, b, bytes.n),
 	           id);
 }
 
@@ -1115,20 +1204,38 @@ static void store_sweep(void)
 	keep_record();
 }
 
+/* What is delivered from a place is answered so: a block that is not read by its refusal, a piece as a store does, any
+ * other block by 0. */
+static void is_delivered(uint64_t number, size_t place)
+{
+	uint64_t o[12];
+	uint64_t read = strawhub_block_read(payload.at, payload.n, place, o).number;
+	if (read == 0 && (o[0] == 4 || o[0] == 5))
+		is_fair(number);
+	else
+		must(number == read, "another number for a block that is no piece");
+}
+
 static void block_deliver(void)
 {
-	const uint8_t *p = lend_payload();
+	const uint8_t *p;
 	uint8_t *at = lend_record(), *o = lend_out();
 	uint64_t *told = lend_numbers(6);
-	size_t place = any_place();
+	size_t place;
 	struct strawhub_outcome r;
+	any_neighbour();
+	p = lend_payload();
+	place = any_place();
 	lend_room();
 	copy_lent();
-	r = strawhub_block_deliver(p, payload.n, place, at, record.n, room_at, room_length, o, out.n, second_now, told);
+	r = strawhub_block_deliver(p, payload.n, place, at, record.n, room_at, room_length, o, out.n, neighbour, second_now,
+	                           told);
 	must(may_answer(r.number, READING KEEPING), "another number");
 	must(r.value == (is_refusal(r.number) ? place : 0), "another place");
+	is_delivered(r.number, place);
 	answer(r.number);
 	keep_record();
+	others_stay();
 	stays(&out, r.number == STRAWHUB_FINISHED ? (size_t)told[5] : 0);
 	if (is_refusal(r.number))
 		return;
@@ -1195,8 +1302,8 @@ static size_t any_call(void)
 static int every_number_came(void)
 {
 	static const uint8_t given[] = {0,  1,  2,  3,  4,  5,  6,  7,  8,  9,  10, 20, 21, 22, 23, 24, 25, 30,
-	                                31, 32, 40, 41, 42, 43, 44, 46, 50, 51, 52, 53, 54, 55, 56, 57, 59, 60,
-	                                70, 71, 72, 73};
+	                                31, 32, 40, 41, 42, 43, 44, 46, 50, 51, 52, 53, 54, 55, 56, 57, 58, 59,
+	                                60, 70, 71, 72, 73};
 	size_t i;
 	int whole = 1;
 	for (i = 0; i < sizeof given; i++) {

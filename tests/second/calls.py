@@ -47,10 +47,10 @@ DECLARED = {
     "sender_ack": (Outcome, *SLICE, U32, U8, *SLICE, AT),
     "sender_outstanding": (Outcome, *SLICE, SIZE, AT),
     "store_new": (U8, *SLICE),
-    "store_first": (Reply, *SLICE, *SLICE, *SLICE, U32, U8, U32, U64, *SLICE),
-    "store_follow_on": (Reply, *SLICE, *SLICE, *SLICE, U32, U8, U8, U64, *SLICE),
+    "store_first": (Reply, *SLICE, *SLICE, *SLICE, U64, U32, U8, U32, U64, *SLICE),
+    "store_follow_on": (Reply, *SLICE, *SLICE, *SLICE, U64, U32, U8, U8, U64, *SLICE),
     "store_sweep": (U8, *SLICE, U64),
-    "block_deliver": (Outcome, *SLICE, SIZE, *SLICE, *SLICE, *SLICE, U64, AT),
+    "block_deliver": (Outcome, *SLICE, SIZE, *SLICE, *SLICE, *SLICE, U64, U64, AT),
 }
 
 

@@ -67,13 +67,13 @@ def acks(c):
 
 
 def pieces(c):
-    """Case (l): pieces 0, 2 last, 5, 1."""
+    """Case (l): pieces 0, 2 last, 5, 1, of neighbour 2."""
     record, room, out = Lent(bytes(RECORD)), Lent(bytes(ROOM)), Lent(bytes(9))
     kept, said = (*record.slice(), *room.slice(), *out.slice()), []
     data = {n: Lent(text) for n, text in ((0, b"abc"), (1, b"def"), (2, b"ghi"), (5, b"jkl"))}
-    said.append(c.calls.store_first(*kept, 77, 20, 900, 0, *data[0].slice()).number)
+    said.append(c.calls.store_first(*kept, 2, 77, 20, 900, 0, *data[0].slice()).number)
     for number, last in ((2, 1), (5, 0), (1, 0)):
-        said.append(c.calls.store_follow_on(*kept, 77, number, last, 0, *data[number].slice()).number)
+        said.append(c.calls.store_follow_on(*kept, 2, 77, number, last, 0, *data[number].slice()).number)
     c.says("l", (said, out.content()), ([0, 0, 55, 60], b"abcdefghi"))
 
 

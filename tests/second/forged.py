@@ -1,23 +1,21 @@
-"""Records that no call made: a call returns, answers a number of 01's, leaves all bytes at a refusal, and writes none that it was not lent.
+"""Records that no call made: a call returns, answers a number of 01's and 02's, leaves all bytes at a refusal, and writes none that it was not lent.
 
-59 comes exactly where a call would read bytes outside their slot by the record, 57 exactly where no slot is in use with an id that the record
-remembers; a sweep, and a message that is finished, leave the memory that the record's bytes say.
+Answers, record, room and assembly buffer are what the record's own bytes say (tests/record_model.py), whatever stands in them: 59 exactly where
+a call would read bytes outside their slot, 57 exactly where no slot is in use with an id that is remembered, 52 where the summary says 4 or
+more or no slot is free; a summary is raised, lowered and never counted anew.
 """
 import collections
-import struct
+import itertools
 
 from acks import TOP, TRACKER
 from blocks_model import LISTED
-from deliveries import fragment
+from deliveries import Deliveries, fragment
 from lent import Lent
-from reassembly import mixture
-from record_model import IDS, KEPT, Record, remembering, swept
-from stores import LATEST, MESSAGE, RECORD, Pair
+from reassembly import mixtures
+from record_model import COUNT, IDS, KEPT, OPEN, RECORD, SHARE, SLOTS, Head, Share, shares
+from stores import ALL, LATEST, MESSAGE
 
-FIRST = (0, 50, 52, 53, 54, 55, 56, 57, 60)
-FOLLOW_ON = FIRST + (51,)
-
-CAME = collections.Counter()  # calls that read a held piece: to compare or to join it, with 59 due or not; and ids that are remembered
+CAME = collections.Counter()  # what calls on forged records met
 
 
 def some_tracker(rng):
@@ -49,25 +47,47 @@ def trackers(calls, judge, rng, count):
         judge.compare(registered in (0, 40, 42, 43), True, stands, "tracker_register on a forged tracker", content, number)
 
 
-def any_memory(rng, content):
-    """The record with any memory: open messages' ids and others, some of them twice, any seconds; a count that is small, whole or above 64."""
-    idents = [head[0] for head in Record(content).heads] + [rng.getrandbits(32) for _ in range(40)]
+def any_memory(rng, share):
+    """Any memory: open messages' ids and others, some of them twice, any seconds; a count that is small, whole or above 16."""
+    idents = [share.head(i).ident for i in range(SLOTS)] + [rng.getrandbits(32) for _ in range(10)]
     seconds = 0, 1, LATEST, LATEST - 29, rng.getrandbits(10), rng.getrandbits(64)
-    finished = [(rng.choice(idents), rng.choice(seconds)) for _ in range(KEPT)]
-    return remembering(content, finished, rng.choice((0, 1, 2, 63, 64, 65, 128, 255)))
+    share.remember([(rng.choice(idents), rng.choice(seconds)) for _ in range(KEPT)], rng.choice((0, 1, 2, 15, 16, 17, 128, 255)))
+
+
+def any_summary(rng, share):
+    """One that is right, one off, none, 4 or above."""
+    used = share.in_use()
+    share.bytes[OPEN] = rng.choice((used, used + 1, max(0, used - 1), 0, 3, 4, 5, 255))
+
+
+def some_free(rng, share):
+    """Some of the slots in use are free."""
+    for i in rng.sample(range(SLOTS), rng.randrange(SLOTS)):
+        share.put_head(i, Head())
+
+
+def changed(rng, record, *ways):
+    """The record with each neighbour's share changed in these ways."""
+    for share in shares(record):
+        for way in ways:
+            way(rng, share)
+        record = share.put_back(record)
+    return record
 
 
 def some_record(rng, real):
-    """Random bytes, all ones, or a store with open messages of which some bytes were changed, or which has any memory."""
+    """Random bytes, all ones, or a store with open messages of which some bytes were changed, or which has any memory, or any summary."""
     at, n = rng.randrange(RECORD), rng.choice((1, 4, 24, 400))
-    changed = (real[:at] + rng.randbytes(n) + real[at + n:])[:RECORD]
-    return rng.choice((rng.randbytes(RECORD), b"\xff" * RECORD, changed, any_memory(rng, real), any_memory(rng, changed)))
+    hurt = (real[:at] + rng.randbytes(n) + real[at + n:])[:RECORD]
+    whole = rng.choice((real, hurt))
+    forged = changed(rng, whole, some_free, any_summary), changed(rng, whole, some_free, any_memory, any_summary)
+    return rng.choice((rng.randbytes(RECORD), b"\xff" * RECORD, hurt, *forged))
 
 
-def some_ident(rng, content):
-    """An id; likely one that stands somewhere in the record."""
-    at = rng.choice((24 * rng.randrange(16), IDS + 4 * rng.randrange(KEPT), rng.randrange(RECORD - 4)))
-    return int.from_bytes(content[at:at + 4], "little") if rng.random() < 0.8 else rng.getrandbits(32)
+def some_ident(rng, share):
+    """An id; likely one that stands somewhere in the share."""
+    at = rng.choice((24 * rng.randrange(SLOTS), IDS + 4 * rng.randrange(KEPT), rng.randrange(SHARE - 4)))
+    return int.from_bytes(share.bytes[at:at + 4], "little") if rng.random() < 0.8 else rng.getrandbits(32)
 
 
 def edge(rng):
@@ -77,94 +97,135 @@ def edge(rng):
 
 
 def lacking_one(rng):
-    """A record whose one open message lacks one piece; up to two of its pieces stand at an edge; any memory. With its id, that number, the last, and a held one."""
-    slot, ident, last, content = rng.randrange(16), rng.getrandbits(32), rng.choice((1, 2, 5, 127)), bytearray(RECORD)
+    """A share whose one open message lacks one piece; up to two of its pieces stand at an edge; any memory and summary.
+
+    With the message's id, that number, the last, and a held one.
+    """
+    share, slot, ident, last = Share(bytes(RECORD), rng.choice(ALL)), rng.randrange(SLOTS), rng.getrandbits(32), rng.choice((1, 2, 5, 127))
     number = rng.choice((0, last, rng.randrange(last + 1)))
     held = [k for k in range(last + 1) if k != number]
-    head = ident, rng.getrandbits(64), 7, rng.choice((0, 64035, 65535)), last, 0 if number == last else last, max(held), 20
-    struct.pack_into("<IQIHBBBB", content, 24 * slot, *head)
+    known = 0 if number == last else last
+    share.put_head(slot, Head(ident, rng.getrandbits(64), 7, rng.choice((0, 64035, 65535)), last, known, max(held), 20))
     edges = rng.sample(held, min(len(held), rng.randrange(3)))
     for k in held:
-        struct.pack_into("<HH", content, 384 + 512 * slot + 4 * k, *(edge(rng) if k in edges else (rng.randrange(64000), 40)))
-    return any_memory(rng, content), ident, number, last, rng.choice(edges or held)
+        share.put_entry(slot, k, *(edge(rng) if k in edges else (rng.randrange(64000), 40)))
+    any_memory(rng, share)
+    any_summary(rng, share)
+    return share, ident, number, last, rng.choice(edges or held)
 
 
-def right(before, got, allowed, ident, first, number, last, length):
-    """Whether the answer is 59 and 57 exactly where they are due, and else one of 01's."""
-    record = Record(before)
-    read, late = record.reads(ident, first, number, last, length), record.refuses_late(ident, first, number, length)
-    due = any(record.outside(*at) for at in read)
-    CAME["held" if number in (k for _, k in read) else "joined", due] += bool(read)
-    CAME["remembered", "open" if record.slot(ident) is not None else "late"] += any(i == ident for i, _ in record.memory)
-    return (got == 59) == due and (got == 57) == late and got in allowed + (59,)
+def met(share, ident, number, answer):
+    """Counts what a call met in the share as it was."""
+    slot = share.slot_of(ident)
+    if any(i == ident for i, _ in share.memory()):
+        CAME["remembered", "late" if slot is None else "open"] += 1
+    if slot is not None and number < 128 and answer in (54, 55, 56, 59, 60):
+        held = share.entry(slot, number)[1] > 0
+        CAME["held" if held else "joined", answer == 59] += held or answer != 55
+        CAME["held again"] += answer == 54
+        CAME["finished with a summary of 0"] += answer == 60 and share.bytes[OPEN] == 0
+    if slot is None:
+        CAME["52 by the summary alone"] += answer == 52 and share.free() is not None
+        CAME["opened under a wrong summary"] += answer == 0 and share.bytes[OPEN] != share.in_use()
 
 
-def piece(pair, ident, number=None, last=None):
+def piece(pair, neighbour, ident, number=None, last=None, data=None):
     """A first or a follow-on piece."""
-    rng = pair.rng
+    rng, share = pair.rng, Share(pair.record.was(), neighbour)
     first = rng.random() < 0.5 if number is None else number == 0
-    data, out = Lent(rng.randbytes(rng.choice((0, 1, 20, 1500, 1501)))), Lent(pair.noise[:rng.choice((0, 100, MESSAGE))])
-    before, called = pair.record.content(), (rng.randrange(256) if number is None else number, rng.randrange(2) if last is None else last)
-    number, last, second = (0, 0, rng.getrandbits(64)) if first else (*called, rng.getrandbits(64))
-    call = pair.calls.store_first if first else pair.calls.store_follow_on
-    got = call(*pair.record.slice(), *pair.room.slice(), *out.slice(), ident, *called, second, *data.slice())
-    written = got.length if got.number == 60 else 0
-    stands = pair.state_stands(got.number, ident, second) and data.stays() and written <= out.size and out.outside(written)
-    name = f"store_{'first' if first else 'follow_on'} on a forged record"
-    good = right(before, got.number, FIRST if first else FOLLOW_ON, ident, first, number, last, data.size)
-    pair.judge.compare(good, True, stands, name, before, got.number, ident, *called, data.content(), out.size)
+    data = rng.randbytes(rng.choice((0, 1, 20, 1500, 1501))) if data is None else data
+    a, b = rng.randrange(256) if number is None else number, rng.randrange(2) if last is None else last
+    call, second, size = pair.first if first else pair.follow_on, rng.getrandbits(64), rng.choice((0, 100, MESSAGE))
+    answer = call(neighbour, ident, *((20, 7) if first and number is not None else (a, b)), second, data, size)
+    met(share, ident, 0 if first else a, answer)
 
 
-def delivery(pair, ident):
+def delivery(pair, neighbour, ident):
     """A fragment as a block."""
-    rng = pair.rng
+    rng, share = pair.rng, Share(pair.record.was(), neighbour)
     parts = [rng.randbytes(rng.choice((1, 20, 1501))) for _ in range(rng.randrange(2, 129))]
     i = rng.choice((0, rng.randrange(len(parts))))
-    payload = Lent(fragment(ident, ((rng.choice(sorted(LISTED)), 7), parts), i))
-    out, told, before = Lent(pair.noise[:rng.choice((0, 100, MESSAGE))]), Lent(bytes(48)), pair.record.content()
-    loans, second = (*pair.record.slice(), *pair.room.slice(), *out.slice()), rng.getrandbits(64)
-    got = pair.calls.block_deliver(*payload.slice(), 0, *loans, second, told.address)
-    length = int.from_bytes(told.content()[40:], "little")
-    stands = pair.state_stands(got.number, ident, second) and payload.stays() and length <= out.size and out.outside(length if got.number == 60 else 0)
-    stands = stands and (told.outside(48) if got.number in (0, 60) else told.stays())
-    good = right(before, got.number, FOLLOW_ON, ident, i == 0, i, i == len(parts) - 1, len(parts[i]))
-    pair.judge.compare(good, True, stands, "block_deliver on a forged record", before, got.number, payload.content(), out.size)
+    payload = fragment(ident, ((rng.choice(sorted(LISTED)), 7), parts), i)
+    answer = pair.deliver(neighbour, payload, 0, rng.getrandbits(64), rng.choice((0, 100, MESSAGE)))
+    met(share, ident, i, answer)
+
+
+def sweep(pair, second):
+    for share in shares(pair.record.was()):
+        old = sum(share.head(i).old(second) for i in range(SLOTS))
+        CAME["swept more than the summary says"] += old > share.bytes[OPEN]
+        CAME["forgotten from a count above 16"] += share.bytes[COUNT] > KEPT
+    pair.sweep(second)
+
+
+def enough(judge, least, *cases):
+    for case in cases:
+        judge.compare(CAME[case] > least, True, True, f"calls on forged records, {case}: {CAME[case]}")
 
 
 def stores(pair, count):
     rng, real = pair.rng, pair.record.content()[:RECORD]
     CAME.clear()
     for _ in range(count):
-        content = some_record(rng, real)
-        pair.record = Lent(content)
+        pair.forge(some_record(rng, real))
         for _ in range(3):
-            piece(pair, some_ident(rng, content))
-            delivery(pair, some_ident(rng, content))
-        second = rng.choice((0, 30, 31, LATEST, rng.getrandbits(10), rng.getrandbits(64)))
-        got, left = pair.calls.store_sweep(*pair.record.slice(), second), swept(pair.record.was(), second)
-        stands = pair.record.start_is(left[:RECORD]) and pair.room.stays()
-        pair.judge.compare(got, 0, stands, "store_sweep on a forged record", pair.record.was(), second)
-    for case in (("remembered", "late"), ("remembered", "open")):
-        pair.judge.compare(CAME[case] > count // 4, True, True, f"pieces for forged records, {case}: {CAME[case]}")
+            for call in (piece, delivery):
+                n = rng.choice(ALL)
+                call(pair, n, some_ident(rng, Share(pair.record.was(), n)))
+        sweep(pair, rng.choice((0, 30, 31, LATEST, rng.getrandbits(10), rng.getrandbits(64))))
+    enough(pair.judge, count // 4, ("remembered", "late"), ("remembered", "open"), "forgotten from a count above 16")
+    enough(pair.judge, 0, "52 by the summary alone", "opened under a wrong summary", "swept more than the summary says")
+
+
+def with_open(rng, used, summary):
+    """A share in which so many slots are in use, each with the first of two pieces, under the ids 0, 1 and so on; the summary says what it will."""
+    share = Share(bytes(RECORD), rng.choice(ALL))
+    for ident, slot in enumerate(rng.sample(range(SLOTS), used)):
+        share.put_head(slot, Head(ident, 0, 7, 9, 1, 0, 0, 20))
+        share.put_entry(slot, 0, 0, 9)
+    share.bytes[OPEN] = summary
+    return share
+
+
+def summaries(pair):
+    """Every summary beside every count of open messages: a piece that would open one more, a piece that finishes one, a sweep that drops them all."""
+    judge = pair.judge
+    for used, summary in itertools.product(range(SLOTS + 1), (0, 1, 2, 3, 4, 5, 128, 254, 255)):
+        share = with_open(pair.rng, used, summary)
+        n, content = share.neighbour, share.put_back(bytes(RECORD))
+        pair.forge(content)
+        said = pair.first(n, 99, 20, 7, 40, b"new"), Share(pair.record.content(), n).bytes[OPEN]
+        full = summary >= 4 or used == SLOTS
+        judge.compare(said, (52, summary) if full else (0, summary + 1), True, "a new message under a forged summary", used, summary)
+        pair.forge(content)
+        said = pair.follow_on(n, 0, 1, 1, 40, b"end"), Share(pair.record.content(), n).bytes[OPEN]
+        judge.compare(used and said, used and (60, max(0, summary - 1)), True, "a message finished under a forged summary", used, summary)
+        pair.forge(content)
+        said = pair.sweep(30), Share(pair.record.content(), n).bytes[OPEN]
+        judge.compare(said, (0, max(0, summary - used)), True, "a sweep under a forged summary", used, summary)
 
 
 def nearly_whole(pair, count):
-    """The piece that a message lacks, and one that it holds: both halves of what a call reads, inside and outside."""
+    """The piece that a message lacks, and one that it holds, at times exactly: both halves of what a call reads, inside and outside."""
     rng = pair.rng
     CAME.clear()
     for _ in range(count):
-        content, ident, number, last, held = lacking_one(rng)
+        share, ident, number, last, held = lacking_one(rng)
+        content, n = share.put_back(bytes(RECORD)), share.neighbour
+        again = share.held(pair.room.view(), share.slot_of(ident), held)
         for k in (held, number):
-            pair.record = Lent(content)
-            piece(pair, ident, k, int(k == last))
-    for case in ((half, due) for half in ("held", "joined") for due in (False, True)):
-        pair.judge.compare(CAME[case] > count // 20, True, True, f"pieces read of forged records, {case}: {CAME[case]}")
+            pair.forge(content)
+            piece(pair, n, ident, k, int(k == last), again if k == held and rng.random() < 0.5 else None)
+    enough(pair.judge, count // 20, *itertools.product(("held", "joined"), (False, True)), "held again")
+    enough(pair.judge, 0, "finished with a summary of 0")
 
 
 def run(calls, judge, rng, whole):
     trackers(calls, judge, rng, 50000 if whole else 3000)
-    pair = Pair(calls, judge, rng)
-    for _ in zip(range(300), mixture(pair, 301, 20)):
-        pass
+    pair = Deliveries(calls, judge, rng)
+    for one in mixtures(pair, 600, 4):
+        for _ in zip(range(140), one):
+            pass
     stores(pair, 4000 if whole else 120)
+    summaries(pair)
     nearly_whole(pair, 20000 if whole else 1000)

@@ -11,6 +11,7 @@ NOBODY = 0
 
 LIBC = ctypes.CDLL(None, use_errno=True)
 LIBC.mprotect.argtypes = (ctypes.c_void_p, ctypes.c_size_t, ctypes.c_int)
+LIBC.memcmp.argtypes = (ctypes.c_void_p, ctypes.c_char_p, ctypes.c_size_t)
 
 
 class Arena:
@@ -76,7 +77,16 @@ class Lent:
         return now[:self.skip] == self.before[:self.skip] and now[end:] == self.before[end:]
 
     def stays(self):
-        return self.now() == self.before
+        return LIBC.memcmp(self.base, self.before, len(self.before)) == 0
+
+    def view(self):
+        """The content that stood there, without a copy."""
+        return memoryview(self.before)[self.skip:self.skip + self.size]
+
+    def expect(self, written, at=0):
+        """These bytes have to stand from a place on, and all else as before."""
+        before, at = memoryview(self.before), self.skip + at
+        self.before = b"".join((before[:at], written, before[at + len(written):]))
 
 
 def numbers(values, width="Q"):

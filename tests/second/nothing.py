@@ -65,17 +65,20 @@ class Nothing:
         none, record, room, piece = self.none, self.at(RECORD), self.at(ROOM), Lent(b"abc").slice()
         self.says("store_new", self.calls.store_new(*none), 59)
         self.says("store_sweep", self.calls.store_sweep(*none, 99), 0)
-        self.says("store_first", self.calls.store_first(*none, *none, *none, 1, 1, 1, 1, *piece), 59)
-        self.says("store_first", self.calls.store_first(*record, *none, *none, 1, 1, 1, 1, *none), 59)
-        self.says("store_follow_on", self.calls.store_follow_on(*none, *room, *none, 1, 1, 1, 1, *piece), 59)
-        self.says("store_first", self.calls.store_first(*record, *room, *none, 1, 1, 1, 1, *none), 50)
-        self.says("store_follow_on", self.calls.store_follow_on(*record, *room, *none, 1, 1, 1, 1, *none), 50)
+        self.says("store_first", self.calls.store_first(*none, *none, *none, 1, 1, 1, 1, 1, *piece), 59)
+        self.says("store_first", self.calls.store_first(*record, *none, *none, 4, 1, 1, 1, 1, *none), 59)
+        self.says("store_follow_on", self.calls.store_follow_on(*none, *room, *none, 1, 1, 1, 1, 1, *piece), 59)
+        self.says("store_first", self.calls.store_first(*record, *room, *none, 4, 1, 1, 1, 1, *none), 58)
+        self.says("store_follow_on", self.calls.store_follow_on(*record, *room, *none, 4, 1, 1, 1, 1, *none), 58)
+        self.says("store_first", self.calls.store_first(*record, *room, *none, 3, 1, 1, 1, 1, *none), 50)
+        self.says("store_follow_on", self.calls.store_follow_on(*record, *room, *none, 3, 1, 1, 1, 1, *none), 50)
 
     def deliveries(self):
         none, told = self.none, self.lent[48].address
-        self.says("block_deliver", self.calls.block_deliver(*none, 0, *none, *none, *none, 1, told), (1, 0))
+        self.says("block_deliver", self.calls.block_deliver(*none, 0, *none, *none, *none, 4, 1, told), (1, 0))
         fragment = Lent(b"\x05\0\x06\x02\0\0\0\1x")
-        self.says("block_deliver", self.calls.block_deliver(*fragment.slice(), 0, *none, *none, *none, 1, told), (59, 0))
+        self.says("block_deliver", self.calls.block_deliver(*fragment.slice(), 0, *none, *none, *none, 4, 1, told), (59, 0))
+        self.says("block_deliver", self.calls.block_deliver(*fragment.slice(), 0, *self.at(RECORD), *self.at(ROOM), *none, 4, 1, told), (58, 0))
 
 
 def run(calls, judge, rng, whole):

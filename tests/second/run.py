@@ -4,7 +4,8 @@
 usage: tests/second/run.py [-l] [-s SEED] [-r ROUNDS] [PART ...]
   -l    the long round: every type, every length, longer sequences; without it about 30 seconds
   -s    the seed, 8439 if none is given; -r so many rounds, each with the next seed
-  PART  cases, nothing, headers, blocks, acks, senders, channel, reassembly, repeats, deliveries, sessions, forged, lister; all of them if none is named
+  PART  cases, nothing, headers, blocks, acks, senders, channel, reassembly, repeats, neighbours, deliveries, sessions, forged, lister; all if
+        none is named
 """
 import argparse
 import faulthandler
@@ -20,7 +21,8 @@ sys.path.insert(0, str(pathlib.Path(__file__).resolve().parents[1]))
 from calls import Calls
 from judge import Judge
 
-PARTS = ("cases", "nothing", "headers", "blocks", "acks", "senders", "channel", "reassembly", "repeats", "deliveries", "sessions", "forged", "lister")
+PARTS = ("cases", "nothing", "headers", "blocks", "acks", "senders", "channel",
+         "reassembly", "repeats", "neighbours", "deliveries", "sessions", "forged", "lister")
 
 # what each call has to have answered in a whole round, or the round tried too little
 ANSWERS = {
@@ -28,8 +30,7 @@ ANSWERS = {
     "block_read": set(range(10)), "block_write": {0, 30, 31, 32}, "block_list": set(range(11)),
     "tracker_register": {0, 40, 42, 43}, "tracker_duplicate": {0, 1}, "tracker_report": {0, 41}, "tracker_ack_block": {0, 30, 41},
     "ack_expand": {0, 44, 46}, "sender_send": {0, 70, 71}, "sender_resend": {0, 71, 73}, "sender_ack": {0, 44, 72},
-    "store_first": {0, 50, 52, 53, 54, 55, 56, 57, 60}, "store_follow_on": {0, 50, 51, 52, 53, 54, 55, 56, 57, 60},
-    "block_deliver": set(range(10)) | {50, 51, 52, 53, 54, 55, 56, 57, 60},
+    "store_first": {0, *range(50, 61)} - {51}, "store_follow_on": {0, *range(50, 61)}, "block_deliver": {*range(10), *range(50, 61)},
 }
 
 

@@ -16,21 +16,22 @@ use Rattle.blocks.specs.declared.Block.the-variants as Body
 use Rattle.blocks.specs.declared.Read.the-variants as Got
 use Rattle.blocks.specs.Reading.{readAt}
 use Rattle.reassembly.specs.declared.Reply.{Reply}
-use Rattle.reassembly.specs.Sizes.{mostRemembered}
-use Rattle.reassembly.specs.Store.{first, follow, Rebuilt, Answer, step}
-use Rattle.reassembly.specs.Calls.{lent, After, firstCall, followOnCall}
-use Rattle.reassembly.specs.Stands.{stands, Agrees}
-use Rattle.reassembly.proofs.Taken.{first-promise, follow-promise}
-use Rattle.reassembly.proofs.Brought.{Sober, step-sober, reply-number, reply-some, laid-some}
+use Rattle.reassembly.specs.Store.{first, follow, Rebuilt}
+use Rattle.reassembly.specs.Neighbours.{NeighboursAnswer, stepFrom}
+use Rattle.reassembly.specs.Calls.{lent, After}
+use Rattle.reassembly.specs.Shares.{firstCall, followOnCall}
+use Rattle.reassembly.specs.Standing.{neighboursOf, AllAgree}
+use Rattle.reassembly.proofs.Promised.{first-promise, follow-promise}
+use Rattle.reassembly.proofs.Brought.{Sober, from-sober, reply-number, reply-some, laid-some}
 use Rattle.messages.specs.declared.Received.{Received}
 use Rattle.messages.specs.Delivery.{deliveryWith, nothing, wholeAt, rebuiltBy, rebuilt, deliveredBy, delivered, messageIn}
 use Rattle.messages.specs.OfStore.{outBytes, receivedFor, OfStore, FirstOfStore, FollowOfStore}
 
-from-none : (at : ℕ) (r : Reply) (id n : ℕ) → r .number ≡ n → (n ≡ 60 → ⊥) → rebuiltBy at r id ≡ receivedFor at id n none
+pub from-none : (at : ℕ) (r : Reply) (id n : ℕ) → r .number ≡ n → (n ≡ 60 → ⊥) → rebuiltBy at r id ≡ receivedFor at id n none
 unfolding rebuiltBy receivedFor
 from-none at r id n e h = rw (e, ne-eqb n 60 h) refl
 
-from-some : (at : ℕ) (r : Reply) (id n : ℕ) (w : Rebuilt) → n ≡ 60 → r ≡ record { number = n; kind = w .kind; expires = w .expires; length = length (w .bytes) }
+pub from-some : (at : ℕ) (r : Reply) (id n : ℕ) (w : Rebuilt) → n ≡ 60 → r ≡ record { number = n; kind = w .kind; expires = w .expires; length = length (w .bytes) }
     → rebuiltBy at r id ≡ receivedFor at id n (some w)
 unfolding rebuiltBy receivedFor
 from-some at r id n w q e =
@@ -72,7 +73,7 @@ some-shown : (s out : List ℕ) (at id n : ℕ) (w : Rebuilt) → length (w .byt
 unfolding messageIn receivedFor
 some-shown s out at id n w h = part-same out 0 (w .bytes) (omega arith)
 
-rebuilt-of : (s : List ℕ) (at : ℕ) (out : List ℕ) (x : After) (a : Answer) (id : ℕ) → Agrees out x a → Sober (length out) (a .number) (a .out) → OfStore s at id out (rebuilt at x id) a
+rebuilt-of : (s : List ℕ) (at : ℕ) (out : List ℕ) (x : After) (a : NeighboursAnswer) (id : ℕ) → AllAgree out x a → Sober (length out) (a .number) (a .out) → OfStore s at id out (rebuilt at x id) a
 unfolding rebuilt outBytes
 rebuilt-of s at out x a id g b = go (a .out) refl
   where
@@ -90,39 +91,39 @@ rebuilt-of s at out x a id g b = go (a .out) refl
 
     go : (o : Option Rebuilt) → a .out ≡ o → OfStore s at id out (deliveryWith (rebuiltBy at (x .reply) id) (x .left)) a
     go none e =
-        of (from-none at (x .reply) id (a .number) (reply-number out x a g) (b .none-out e) ∙ ap (receivedFor at id (a .number)) (sym e))
+        of (from-none at (x .reply) id (a .number) (reply-number out x (a .number) (a .out) (g .reply) (g .delivered)) (b .none-out e) ∙ ap (receivedFor at id (a .number)) (sym e))
         (ap (λ (o : Option Rebuilt). messageIn s (x .left .out) (receivedFor at id (a .number) o)) e ∙ none-shown s (x .left .out) at id (a .number) ∙ ap outBytes (sym e))
     go (some w) e =
-        of (from-some at (x .reply) id (a .number) w (b .some-out w e .0) (reply-some out x a g w e) ∙ ap (receivedFor at id (a .number)) (sym e))
+        of (from-some at (x .reply) id (a .number) w (b .some-out w e .0) (reply-some out x (a .number) (a .out) (g .reply) (g .delivered) w e) ∙ ap (receivedFor at id (a .number)) (sym e))
         (ap (λ (o : Option Rebuilt). messageIn s (x .left .out) (receivedFor at id (a .number) o)) e
-        ∙ ap (λ (z : List ℕ). messageIn s z (receivedFor at id (a .number) (some w))) (laid-some out x a g w e)
+        ∙ ap (λ (z : List ℕ). messageIn s z (receivedFor at id (a .number) (some w))) (laid-some out x (a .number) (a .out) (g .reply) (g .delivered) w e)
         ∙ some-shown s out at id (a .number) w (b .some-out w e .1)
         ∙ ap outBytes (sym e))
 
 pub first-of-store : FirstOfStore
 unfolding deliveredBy
-first-of-store s at rec room out second k i x p m hi hx hs =
-    rebuilt-of s at out (firstCall (lent rec room out) (record { id = i; number = 0; last = false; kind = k; expires = x }) second (part s (p .start) (p .len)))
-    (step mostRemembered (length out) (stands rec room) (first i k x (part s (p .start) (p .len))) second) i
-    (first-promise rec room out i k x second (part s (p .start) (p .len)) _ hi hx hs refl m)
-    (step-sober mostRemembered (length out) (stands rec room) (first i k x (part s (p .start) (p .len))) second)
+first-of-store s at rec room out m second k i x p made hi hx hs =
+    rebuilt-of s at out (firstCall (lent rec room out) m (record { id = i; number = 0; last = false; kind = k; expires = x }) second (part s (p .start) (p .len)))
+    (stepFrom (length out) (neighboursOf rec room) m (first i k x (part s (p .start) (p .len))) second) i
+    (first-promise rec room out m i k x second (part s (p .start) (p .len)) _ hi hx hs refl made)
+    (from-sober (length out) (neighboursOf rec room) m (first i k x (part s (p .start) (p .len))) second)
 
 pub follow-of-store : FollowOfStore
 unfolding deliveredBy
-follow-of-store s at rec room out second n l i p m hi hs =
-    rebuilt-of s at out (followOnCall (lent rec room out) (record { id = i; number = n; last = l; kind = 0; expires = 0 }) second (part s (p .start) (p .len)))
-    (step mostRemembered (length out) (stands rec room) (follow i n l (part s (p .start) (p .len))) second) i
-    (follow-promise rec room out i n l second (part s (p .start) (p .len)) _ hi hs refl m)
-    (step-sober mostRemembered (length out) (stands rec room) (follow i n l (part s (p .start) (p .len))) second)
+follow-of-store s at rec room out m second n l i p made hi hs =
+    rebuilt-of s at out (followOnCall (lent rec room out) m (record { id = i; number = n; last = l; kind = 0; expires = 0 }) second (part s (p .start) (p .len)))
+    (stepFrom (length out) (neighboursOf rec room) m (follow i n l (part s (p .start) (p .len))) second) i
+    (follow-promise rec room out m i n l second (part s (p .start) (p .len)) _ hi hs refl made)
+    (from-sober (length out) (neighboursOf rec room) m (follow i n l (part s (p .start) (p .len))) second)
 
 -- a whole message is its block's part of the payload, and the store stays
-pub whole-shown : (s : List ℕ) (at : ℕ) (rec room out : List ℕ) (second k i x : ℕ) (p : Part)
-    → messageIn s (deliveredBy s at (lent rec room out) second (Body.I2np k i x p) .left .out) (deliveredBy s at (lent rec room out) second (Body.I2np k i x p) .received) ≡ part s (p .start) (p .len)
+pub whole-shown : (s : List ℕ) (at : ℕ) (rec room out : List ℕ) (n second k i x : ℕ) (p : Part)
+    → messageIn s (deliveredBy s at (lent rec room out) n second (Body.I2np k i x p) .left .out) (deliveredBy s at (lent rec room out) n second (Body.I2np k i x p) .received) ≡ part s (p .start) (p .len)
 unfolding deliveredBy messageIn wholeAt
-whole-shown s at rec room out second k i x p = refl
+whole-shown s at rec room out n second k i x p = refl
 
 -- what is delivered at a place is what the block that is read there delivers
-pub read-delivers : (s : List ℕ) (at : ℕ) (rec room out : List ℕ) (second : ℕ) (b : Block) (size next : ℕ) → readAt s at ≡ Got.Block b size next
-    → delivered s at (lent rec room out) second (readAt s at) ≡ deliveredBy s at (lent rec room out) second b
+pub read-delivers : (s : List ℕ) (at : ℕ) (rec room out : List ℕ) (n second : ℕ) (b : Block) (size next : ℕ) → readAt s at ≡ Got.Block b size next
+    → delivered s at (lent rec room out) n second (readAt s at) ≡ deliveredBy s at (lent rec room out) n second b
 unfolding delivered
-read-delivers s at rec room out second b size next e = ap (delivered s at (lent rec room out) second) e
+read-delivers s at rec room out n second b size next e = ap (delivered s at (lent rec room out) n second) e

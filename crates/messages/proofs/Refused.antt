@@ -15,7 +15,8 @@ use Rattle.blocks.specs.declared.Read.the-variants as Got
 use Rattle.blocks.specs.Reading.{readAt}
 use Rattle.blocks.proofs.Refused.{unread, read-numbers}
 use Rattle.reassembly.specs.declared.Reply.{Reply}
-use Rattle.reassembly.specs.Calls.{Lent, After, after, firstCall, followOnCall}
+use Rattle.reassembly.specs.Calls.{Lent, After, after}
+use Rattle.reassembly.specs.Shares.{firstCall, followOnCall}
 use Rattle.reassembly.specs.Careful.{Careful}
 use Rattle.reassembly.proofs.Refusals.{careful-first, careful-follow-on}
 use Rattle.reassembly.proofs.Refused.{followOnNumbers, of-first, first-numbers, follow-on-numbers}
@@ -47,64 +48,64 @@ pub nothing-start : (n p : ℕ) → nothing n p .start ≡ p
 unfolding nothing
 nothing-start n p = refl
 
-module _ (s : List ℕ) (at : ℕ) (x : Lent) (second : ℕ) where
+module _ (s : List ℕ) (at : ℕ) (x : Lent) (n second : ℕ) where
   -- neither kept nor finished: the number, the block's place, and all is as it was
   abbrev Stays : Delivery → Type 0
   Stays d = (d .received .number ≡ 0 → ⊥) → (d .received .number ≡ 60 → ⊥) → d ≡ deliveryWith (nothing (d .received .number) at) x
 
-  piece-stays : (y : After) (id : ℕ) → Careful x y → Stays (rebuilt at y id)
+  piece-stays : (y : After) (id : ℕ) → Careful n x y → Stays (rebuilt at y id)
   unfolding rebuilt
   piece-stays y id c kept done = go (c .refusal)
     where
-      n : rebuiltBy at (y .reply) id .number ≡ y .reply .number
-      n = number-is at (y .reply) id
+      k : rebuiltBy at (y .reply) id .number ≡ y .reply .number
+      k = number-is at (y .reply) id
 
       is : rebuiltBy at (y .reply) id ≡ nothing (rebuiltBy at (y .reply) id .number) at
-      is = refusal-is at (y .reply) id (λ e. kept (n ∙ e)) (λ e. done (n ∙ e)) ∙ ap (λ (k : ℕ). nothing k at) (sym n)
+      is = refusal-is at (y .reply) id (λ e. kept (k ∙ e)) (λ e. done (k ∙ e)) ∙ ap (λ (z : ℕ). nothing z at) (sym k)
 
       go : ((y .reply .number ≡ 0) ⊎ ((y .reply .number ≡ 60) ⊎ (y ≡ after (y .reply) x))) → rebuilt at y id ≡ deliveryWith (nothing (rebuiltBy at (y .reply) id .number) at) x
-      go (inl e) = absurd (kept (n ∙ e))
-      go (inr (inl e)) = absurd (done (n ∙ e))
+      go (inl e) = absurd (kept (k ∙ e))
+      go (inr (inl e)) = absurd (done (k ∙ e))
       go (inr (inr e)) =
           ap (λ (z : After). deliveryWith (rebuiltBy at (y .reply) id) (z .left)) e
           ∙ ap (λ (r : Received). deliveryWith r x) is
 
-  block-stays : (b : Block) → Stays (deliveredBy s at x second b)
+  block-stays : (b : Block) → Stays (deliveredBy s at x n second b)
   unfolding deliveredBy wholeAt nothing
   block-stays (Body.FirstFragment k i e p) =
-      piece-stays (firstCall x (record { id = i; number = 0; last = false; kind = k; expires = e }) second (part s (p .start) (p .len))) i
-      (careful-first x (record { id = i; number = 0; last = false; kind = k; expires = e }) second (part s (p .start) (p .len)))
-  block-stays (Body.FollowOnFragment n l i p) =
-      piece-stays (followOnCall x (record { id = i; number = n; last = l; kind = 0; expires = 0 }) second (part s (p .start) (p .len))) i
-      (careful-follow-on x (record { id = i; number = n; last = l; kind = 0; expires = 0 }) second (part s (p .start) (p .len)))
+      piece-stays (firstCall x n (record { id = i; number = 0; last = false; kind = k; expires = e }) second (part s (p .start) (p .len))) i
+      (careful-first x n (record { id = i; number = 0; last = false; kind = k; expires = e }) second (part s (p .start) (p .len)))
+  block-stays (Body.FollowOnFragment m l i p) =
+      piece-stays (followOnCall x n (record { id = i; number = m; last = l; kind = 0; expires = 0 }) second (part s (p .start) (p .len))) i
+      (careful-follow-on x n (record { id = i; number = m; last = l; kind = 0; expires = 0 }) second (part s (p .start) (p .len)))
   block-stays (Body.I2np k i e p) = λ kept done. absurd (kept refl)
   block-stays (Body.DateTime t) = λ kept done. absurd (kept refl)
   block-stays (Body.Options a b c d e f g h) = λ kept done. absurd (kept refl)
   block-stays (Body.RouterInfo f g p) = λ kept done. absurd (kept refl)
-  block-stays (Body.Termination n r) = λ kept done. absurd (kept refl)
-  block-stays (Body.Ack t n p) = λ kept done. absurd (kept refl)
+  block-stays (Body.Termination m r) = λ kept done. absurd (kept refl)
+  block-stays (Body.Ack t m p) = λ kept done. absurd (kept refl)
   block-stays (Body.Address o p) = λ kept done. absurd (kept refl)
   block-stays Body.RelayTagRequest = λ kept done. absurd (kept refl)
   block-stays (Body.RelayTag t) = λ kept done. absurd (kept refl)
   block-stays (Body.NewToken e t) = λ kept done. absurd (kept refl)
   block-stays (Body.PathChallenge p) = λ kept done. absurd (kept refl)
   block-stays (Body.PathResponse p) = λ kept done. absurd (kept refl)
-  block-stays (Body.FirstPacketNumber n) = λ kept done. absurd (kept refl)
+  block-stays (Body.FirstPacketNumber m) = λ kept done. absurd (kept refl)
   block-stays (Body.Congestion f) = λ kept done. absurd (kept refl)
   block-stays (Body.Padding p) = λ kept done. absurd (kept refl)
   block-stays (Body.Opaque k p) = λ kept done. absurd (kept refl)
 
-  pub delivery-stays : Stays (delivered s at x second (readAt s at))
+  pub delivery-stays : Stays (delivered s at x n second (readAt s at))
   unfolding delivered nothing
   delivery-stays = go (readAt s at) refl
     where
-      go : (r : Read) → readAt s at ≡ r → Stays (delivered s at x second r)
-      go (Got.Block b z n) e = block-stays b
+      go : (r : Read) → readAt s at ≡ r → Stays (delivered s at x n second r)
+      go (Got.Block b z w) e = block-stays b
       go (Got.Refused m p) e = λ kept done. ap (λ (q : ℕ). deliveryWith (nothing m q) x) (read-numbers s at m p e .0)
 
 -- kept and finished, a block's refusals, a piece's
 abbrev pub deliveryNumbers : List ℕ
-deliveryNumbers = 0 ∷ 60 ∷ 1 ∷ 2 ∷ 3 ∷ 4 ∷ 5 ∷ 6 ∷ 7 ∷ 8 ∷ 9 ∷ 50 ∷ 51 ∷ 52 ∷ 53 ∷ 54 ∷ 55 ∷ 56 ∷ 57 ∷ 59 ∷ []
+deliveryNumbers = 0 ∷ 60 ∷ 1 ∷ 2 ∷ 3 ∷ 4 ∷ 5 ∷ 6 ∷ 7 ∷ 8 ∷ 9 ∷ 50 ∷ 51 ∷ 52 ∷ 53 ∷ 54 ∷ 55 ∷ 56 ∷ 57 ∷ 58 ∷ 59 ∷ []
 
 of-piece : (n : ℕ) → OneOf followOnNumbers n → OneOf deliveryNumbers n
 of-piece n (inl e) = inl e
@@ -125,40 +126,40 @@ of-block n (inr (inr (inr (inr (inr (inr (inr (inr e)))))))) = inr (inr (inr (in
 none : OneOf deliveryNumbers 0
 none = of-piece 0 (inl refl)
 
-module _ (s : List ℕ) (at : ℕ) (x : Lent) (second : ℕ) where
+module _ (s : List ℕ) (at : ℕ) (x : Lent) (n second : ℕ) where
   piece-numbers : (y : After) (id : ℕ) → OneOf followOnNumbers (y .reply .number) → OneOf deliveryNumbers (rebuilt at y id .received .number)
   unfolding rebuilt
   piece-numbers y id e = of-piece _ (subst (OneOf followOnNumbers) (sym (number-is at (y .reply) id)) e)
 
-  block-numbers : (b : Block) → OneOf deliveryNumbers (deliveredBy s at x second b .received .number)
+  block-numbers : (b : Block) → OneOf deliveryNumbers (deliveredBy s at x n second b .received .number)
   unfolding deliveredBy wholeAt nothing
   block-numbers (Body.FirstFragment k i e p) =
-      piece-numbers (firstCall x (record { id = i; number = 0; last = false; kind = k; expires = e }) second (part s (p .start) (p .len))) i
-      (of-first _ (first-numbers x (record { id = i; number = 0; last = false; kind = k; expires = e }) second (part s (p .start) (p .len))))
-  block-numbers (Body.FollowOnFragment n l i p) =
-      piece-numbers (followOnCall x (record { id = i; number = n; last = l; kind = 0; expires = 0 }) second (part s (p .start) (p .len))) i
-      (follow-on-numbers x (record { id = i; number = n; last = l; kind = 0; expires = 0 }) second (part s (p .start) (p .len)))
+      piece-numbers (firstCall x n (record { id = i; number = 0; last = false; kind = k; expires = e }) second (part s (p .start) (p .len))) i
+      (of-first _ (first-numbers x n (record { id = i; number = 0; last = false; kind = k; expires = e }) second (part s (p .start) (p .len))))
+  block-numbers (Body.FollowOnFragment m l i p) =
+      piece-numbers (followOnCall x n (record { id = i; number = m; last = l; kind = 0; expires = 0 }) second (part s (p .start) (p .len))) i
+      (follow-on-numbers x n (record { id = i; number = m; last = l; kind = 0; expires = 0 }) second (part s (p .start) (p .len)))
   block-numbers (Body.I2np k i e p) = none
   block-numbers (Body.DateTime t) = none
   block-numbers (Body.Options a b c d e f g h) = none
   block-numbers (Body.RouterInfo f g p) = none
-  block-numbers (Body.Termination n r) = none
-  block-numbers (Body.Ack t n p) = none
+  block-numbers (Body.Termination m r) = none
+  block-numbers (Body.Ack t m p) = none
   block-numbers (Body.Address o p) = none
   block-numbers Body.RelayTagRequest = none
   block-numbers (Body.RelayTag t) = none
   block-numbers (Body.NewToken e t) = none
   block-numbers (Body.PathChallenge p) = none
   block-numbers (Body.PathResponse p) = none
-  block-numbers (Body.FirstPacketNumber n) = none
+  block-numbers (Body.FirstPacketNumber m) = none
   block-numbers (Body.Congestion f) = none
   block-numbers (Body.Padding p) = none
   block-numbers (Body.Opaque k p) = none
 
-  pub delivery-numbers : OneOf deliveryNumbers (delivered s at x second (readAt s at) .received .number)
+  pub delivery-numbers : OneOf deliveryNumbers (delivered s at x n second (readAt s at) .received .number)
   unfolding delivered nothing
   delivery-numbers = go (readAt s at) refl
     where
-      go : (r : Read) → readAt s at ≡ r → OneOf deliveryNumbers (delivered s at x second r .received .number)
-      go (Got.Block b z n) e = block-numbers b
+      go : (r : Read) → readAt s at ≡ r → OneOf deliveryNumbers (delivered s at x n second r .received .number)
+      go (Got.Block b z w) e = block-numbers b
       go (Got.Refused m p) e = of-block m (read-numbers s at m p e .1)

@@ -10,7 +10,8 @@ use Rattle.blocks.specs.declared.Block.the-variants as Body
 use Rattle.blocks.specs.declared.Read.{Read}
 use Rattle.blocks.specs.declared.Read.the-variants as Got
 use Rattle.reassembly.specs.declared.Reply.{Reply}
-use Rattle.reassembly.specs.Calls.{Lent, After, firstCall, followOnCall}
+use Rattle.reassembly.specs.Calls.{Lent, After}
+use Rattle.reassembly.specs.Shares.{firstCall, followOnCall}
 use Rattle.messages.specs.declared.Received.{Received}
 
 -- What a call leaves: what was received, and what became of the bytes that it was lent.
@@ -41,33 +42,33 @@ rebuiltBy at r id =
 unfoldable pub rebuilt : ℕ → After → ℕ → Delivery
 rebuilt at y id = deliveryWith (rebuiltBy at (y .reply) id) (y .left)
 
--- a block that was read at a place of a payload
-unfoldable pub deliveredBy : List ℕ → ℕ → Lent → ℕ → Block → Delivery
-deliveredBy s at x second (Body.I2np k i e p) = deliveryWith (wholeAt k i e p) x
-deliveredBy s at x second (Body.FirstFragment k i e p) =
-    rebuilt at (firstCall x (record { id = i; number = 0; last = false; kind = k; expires = e }) second (part s (p .start) (p .len))) i
-deliveredBy s at x second (Body.FollowOnFragment n l i p) =
-    rebuilt at (followOnCall x (record { id = i; number = n; last = l; kind = 0; expires = 0 }) second (part s (p .start) (p .len))) i
-deliveredBy s at x second (Body.DateTime t) = deliveryWith (nothing 0 0) x
-deliveredBy s at x second (Body.Options a b c d e f g h) = deliveryWith (nothing 0 0) x
-deliveredBy s at x second (Body.RouterInfo f g p) = deliveryWith (nothing 0 0) x
-deliveredBy s at x second (Body.Termination n r) = deliveryWith (nothing 0 0) x
-deliveredBy s at x second (Body.Ack t n p) = deliveryWith (nothing 0 0) x
-deliveredBy s at x second (Body.Address o p) = deliveryWith (nothing 0 0) x
-deliveredBy s at x second Body.RelayTagRequest = deliveryWith (nothing 0 0) x
-deliveredBy s at x second (Body.RelayTag t) = deliveryWith (nothing 0 0) x
-deliveredBy s at x second (Body.NewToken e t) = deliveryWith (nothing 0 0) x
-deliveredBy s at x second (Body.PathChallenge p) = deliveryWith (nothing 0 0) x
-deliveredBy s at x second (Body.PathResponse p) = deliveryWith (nothing 0 0) x
-deliveredBy s at x second (Body.FirstPacketNumber n) = deliveryWith (nothing 0 0) x
-deliveredBy s at x second (Body.Congestion f) = deliveryWith (nothing 0 0) x
-deliveredBy s at x second (Body.Padding p) = deliveryWith (nothing 0 0) x
-deliveredBy s at x second (Body.Opaque k p) = deliveryWith (nothing 0 0) x
+-- a block that was read at a place of a payload of neighbour n; only a fragment's piece comes to the store, and asks for the neighbour
+unfoldable pub deliveredBy : List ℕ → ℕ → Lent → ℕ → ℕ → Block → Delivery
+deliveredBy s at x n second (Body.I2np k i e p) = deliveryWith (wholeAt k i e p) x
+deliveredBy s at x n second (Body.FirstFragment k i e p) =
+    rebuilt at (firstCall x n (record { id = i; number = 0; last = false; kind = k; expires = e }) second (part s (p .start) (p .len))) i
+deliveredBy s at x n second (Body.FollowOnFragment m l i p) =
+    rebuilt at (followOnCall x n (record { id = i; number = m; last = l; kind = 0; expires = 0 }) second (part s (p .start) (p .len))) i
+deliveredBy s at x n second (Body.DateTime t) = deliveryWith (nothing 0 0) x
+deliveredBy s at x n second (Body.Options a b c d e f g h) = deliveryWith (nothing 0 0) x
+deliveredBy s at x n second (Body.RouterInfo f g p) = deliveryWith (nothing 0 0) x
+deliveredBy s at x n second (Body.Termination m r) = deliveryWith (nothing 0 0) x
+deliveredBy s at x n second (Body.Ack t m p) = deliveryWith (nothing 0 0) x
+deliveredBy s at x n second (Body.Address o p) = deliveryWith (nothing 0 0) x
+deliveredBy s at x n second Body.RelayTagRequest = deliveryWith (nothing 0 0) x
+deliveredBy s at x n second (Body.RelayTag t) = deliveryWith (nothing 0 0) x
+deliveredBy s at x n second (Body.NewToken e t) = deliveryWith (nothing 0 0) x
+deliveredBy s at x n second (Body.PathChallenge p) = deliveryWith (nothing 0 0) x
+deliveredBy s at x n second (Body.PathResponse p) = deliveryWith (nothing 0 0) x
+deliveredBy s at x n second (Body.FirstPacketNumber m) = deliveryWith (nothing 0 0) x
+deliveredBy s at x n second (Body.Congestion f) = deliveryWith (nothing 0 0) x
+deliveredBy s at x n second (Body.Padding p) = deliveryWith (nothing 0 0) x
+deliveredBy s at x n second (Body.Opaque k p) = deliveryWith (nothing 0 0) x
 
 -- a block, or its refusal
-unfoldable pub delivered : List ℕ → ℕ → Lent → ℕ → Read → Delivery
-delivered s at x second (Got.Block b size next) = deliveredBy s at x second b
-delivered s at x second (Got.Refused number place) = deliveryWith (nothing number place) x
+unfoldable pub delivered : List ℕ → ℕ → Lent → ℕ → ℕ → Read → Delivery
+delivered s at x n second (Got.Block b size next) = deliveredBy s at x n second b
+delivered s at x n second (Got.Refused number place) = deliveryWith (nothing number place) x
 
 -- the bytes of the message that was received; none where none was
 unfoldable pub messageIn : List ℕ → List ℕ → Received → List ℕ

@@ -1,4 +1,4 @@
--- What is received, said of the store: a fragment delivers exactly the message that the store's step brings out, and nothing else.
+-- What is received, said of the store: a neighbour's fragment delivers exactly the message that its piece brings out of the store, and nothing else.
 use mathlib.Core.Path.{_≡_}
 use mathlib.Core.Bool.{Bool, cond}
 use mathlib.Core.List.{List, []}
@@ -9,10 +9,11 @@ use lib.ListN.{length}
 use Rattle.wire.specs.Parts.{part}
 use Rattle.blocks.specs.declared.Part.{Part}
 use Rattle.blocks.specs.declared.Block.the-variants as Body
-use Rattle.reassembly.specs.Sizes.{mostRemembered}
-use Rattle.reassembly.specs.Store.{first, follow, Rebuilt, Answer, step}
+use Rattle.reassembly.specs.Store.{first, follow, Rebuilt}
+use Rattle.reassembly.specs.Neighbours.{NeighboursAnswer, stepFrom}
 use Rattle.reassembly.specs.Calls.{lent}
-use Rattle.reassembly.specs.Stands.{stands, Made, laidOut}
+use Rattle.reassembly.specs.Stands.{laidOut}
+use Rattle.reassembly.specs.Standing.{neighboursOf, AllMade}
 use Rattle.messages.specs.declared.Received.{Received}
 use Rattle.messages.specs.Delivery.{Delivery, nothing, deliveredBy, messageIn}
 
@@ -27,22 +28,22 @@ receivedFor at id n none = cond (eqb n 0) (nothing 0 0) (nothing n at)
 receivedFor at id n (some w) = record { number = n; from = 2; kind = w .kind; id = id; expires = w .expires; start = 0; length = length (w .bytes) }
 
 -- what a fragment's block at a place left of a payload and an assembly buffer is the store's answer to its piece
-pub record OfStore (s : List ℕ) (at id : ℕ) (out : List ℕ) (x : Delivery) (a : Answer) : Type 0 where
+pub record OfStore (s : List ℕ) (at id : ℕ) (out : List ℕ) (x : Delivery) (a : NeighboursAnswer) : Type 0 where
   pub received : x .received ≡ receivedFor at id (a .number) (a .out)
   pub buffer : x .left .out ≡ laidOut out (a .out)
   pub number : x .received .number ≡ a .number
   pub message : messageIn s (x .left .out) (x .received) ≡ outBytes (a .out)
-  pub store : stands (x .left .rec) (x .left .room) ≡ a .store
-  pub made : Made (x .left .rec) (x .left .room)
+  pub store : neighboursOf (x .left .rec) (x .left .room) ≡ a .left
+  pub made : AllMade (x .left .rec) (x .left .room)
 
--- a first fragment's block, on a record and a room that calls made, is answered as the store answers its piece
+-- a first fragment's block of neighbour m, on a record and a room that calls made, is answered as the store answers its piece
 abbrev pub FirstOfStore : Type 0
 FirstOfStore =
-    (s : List ℕ) (at : ℕ) (rec room out : List ℕ) (second k i x : ℕ) (p : Part) → Made rec room → i < 4294967296 → x < 4294967296 → second < 18446744073709551616
-    → OfStore s at i out (deliveredBy s at (lent rec room out) second (Body.FirstFragment k i x p)) (step mostRemembered (length out) (stands rec room) (first i k x (part s (p .start) (p .len))) second)
+    (s : List ℕ) (at : ℕ) (rec room out : List ℕ) (m second k i x : ℕ) (p : Part) → AllMade rec room → i < 4294967296 → x < 4294967296 → second < 18446744073709551616
+    → OfStore s at i out (deliveredBy s at (lent rec room out) m second (Body.FirstFragment k i x p)) (stepFrom (length out) (neighboursOf rec room) m (first i k x (part s (p .start) (p .len))) second)
 
 -- and so is a follow-on fragment's
 abbrev pub FollowOfStore : Type 0
 FollowOfStore =
-    (s : List ℕ) (at : ℕ) (rec room out : List ℕ) (second n : ℕ) (l : Bool) (i : ℕ) (p : Part) → Made rec room → i < 4294967296 → second < 18446744073709551616
-    → OfStore s at i out (deliveredBy s at (lent rec room out) second (Body.FollowOnFragment n l i p)) (step mostRemembered (length out) (stands rec room) (follow i n l (part s (p .start) (p .len))) second)
+    (s : List ℕ) (at : ℕ) (rec room out : List ℕ) (m second n : ℕ) (l : Bool) (i : ℕ) (p : Part) → AllMade rec room → i < 4294967296 → second < 18446744073709551616
+    → OfStore s at i out (deliveredBy s at (lent rec room out) m second (Body.FollowOnFragment n l i p)) (stepFrom (length out) (neighboursOf rec room) m (follow i n l (part s (p .start) (p .len))) second)

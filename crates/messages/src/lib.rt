@@ -92,9 +92,10 @@ fn deliver(
     rec: &mut [u8],
     room: &mut [u8],
     out: &mut [u8],
+    neighbour: u64,
     second: u64,
 ) -> Received
-    ensures { λ r. ⌜ deliveryWith r (lent (now (rec .exit)) (now (room .exit)) (now (out .exit))) ≡ deliveredBy (now (payload .entry)) at (lent (now (rec .entry)) (now (room .entry)) (now (out .entry))) second block ⌝ }
+    ensures { λ r. ⌜ deliveryWith r (lent (now (rec .exit)) (now (room .exit)) (now (out .exit))) ≡ deliveredBy (now (payload .entry)) at (lent (now (rec .entry)) (now (room .entry)) (now (out .entry))) neighbour second block ⌝ }
 {
     match block {
         Block::I2np {
@@ -114,6 +115,7 @@ fn deliver(
                 rec,
                 room,
                 out,
+                neighbour,
                 id,
                 kind,
                 expiration,
@@ -133,6 +135,7 @@ fn deliver(
                 rec,
                 room,
                 out,
+                neighbour,
                 id,
                 number,
                 last,
@@ -145,23 +148,24 @@ fn deliver(
     }
 }
 
-// What the block at a place of a payload delivers.
+// What the block at a place of a neighbour's payload delivers.
 pub fn receive(
     payload: &[u8],
     at: usize,
     rec: &mut [u8],
     room: &mut [u8],
     out: &mut [u8],
+    neighbour: u64,
     second: u64,
 ) -> Received
-    ensures { λ r. ⌜ deliveryWith r (lent (now (rec .exit)) (now (room .exit)) (now (out .exit))) ≡ delivered (now (payload .entry)) at (lent (now (rec .entry)) (now (room .entry)) (now (out .entry))) second (readAt (now (payload .entry)) at) ⌝ }
+    ensures { λ r. ⌜ deliveryWith r (lent (now (rec .exit)) (now (room .exit)) (now (out .exit))) ≡ delivered (now (payload .entry)) at (lent (now (rec .entry)) (now (room .entry)) (now (out .entry))) neighbour second (readAt (now (payload .entry)) at) ⌝ }
 {
     match blocks_reader::read_block(payload, at) {
         Read::Block {
             block,
             size: _,
             next: _,
-        } => deliver(payload, at, block, rec, room, out, second),
+        } => deliver(payload, at, block, rec, room, out, neighbour, second),
         Read::Refused { number, place } => nothing(number, place),
     }
 }

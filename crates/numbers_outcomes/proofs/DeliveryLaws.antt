@@ -11,11 +11,11 @@ use Rattle.numbers_outcomes.specs.Outcomes.{outcome}
 use Rattle.numbers_outcomes.specs.Deliveries.{deliveryOutcome, deliveryNumbers, deliveredAt, Told, toldWith, toldBy, deliverCall}
 
 -- the call, from what was received, what is told of it, and what is left
-pub call-told : (s : List ℕ) (at : ℕ) (x y : Lent) (second : ℕ) (told told′ : List ℕ) (r : Received) (o : Outcome)
-    → deliveryWith r y ≡ deliveredAt s at x second → o ≡ deliveryOutcome r → told′ ≡ deliveryNumbers r told
-    → toldWith o told′ y ≡ deliverCall s at x second told
+pub call-told : (s : List ℕ) (at : ℕ) (x y : Lent) (n second : ℕ) (told told′ : List ℕ) (r : Received) (o : Outcome)
+    → deliveryWith r y ≡ deliveredAt s at x n second → o ≡ deliveryOutcome r → told′ ≡ deliveryNumbers r told
+    → toldWith o told′ y ≡ deliverCall s at x n second told
 unfolding deliverCall
-call-told s at x y second told told′ r o e eo et =
+call-told s at x y n second told told′ r o e eo et =
     (λ i. toldWith (eo i) (et i) y) ∙ ap (λ (d : Delivery). toldBy d told) e
 
 -- a number, a place and no message: kept, or refused at the place

@@ -22,9 +22,9 @@ deliveryOutcome r = cond (isRefused r) (outcome (r .number) (r .start)) (outcome
 unfoldable pub deliveryNumbers : Received → List ℕ → List ℕ
 deliveryNumbers r told = cond (isRefused r) told (r .from ∷ r .kind ∷ r .id ∷ r .expires ∷ r .start ∷ r .length ∷ [])
 
--- what the block at a place of a payload delivers, and leaves
-abbrev pub deliveredAt : List ℕ → ℕ → Lent → ℕ → Delivery
-deliveredAt s at x second = delivered s at x second (readAt s at)
+-- what the block at a place of neighbour n's payload delivers, and leaves
+abbrev pub deliveredAt : List ℕ → ℕ → Lent → ℕ → ℕ → Delivery
+deliveredAt s at x n second = delivered s at x n second (readAt s at)
 
 -- What strawhub_block_deliver leaves: its outcome, its six numbers, and what became of the bytes that it was lent.
 pub record Told : Type 0 where
@@ -40,6 +40,6 @@ toldWith o told x = record { outcome = o; told = told; left = x }
 abbrev pub toldBy : Delivery → List ℕ → Told
 toldBy d told = toldWith (deliveryOutcome (d .received)) (deliveryNumbers (d .received) told) (d .left)
 
--- strawhub_block_deliver: the block at a place of a payload is delivered, and told
-unfoldable pub deliverCall : List ℕ → ℕ → Lent → ℕ → List ℕ → Told
-deliverCall s at x second told = toldBy (deliveredAt s at x second) told
+-- strawhub_block_deliver: the block at a place of neighbour n's payload is delivered, and told
+unfoldable pub deliverCall : List ℕ → ℕ → Lent → ℕ → ℕ → List ℕ → Told
+deliverCall s at x n second told = toldBy (deliveredAt s at x n second) told

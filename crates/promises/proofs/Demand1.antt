@@ -11,7 +11,8 @@ use Rattle.blocks.proofs.Refused as Blocks
 use Rattle.blocks_listing.proofs.Refused as Listing
 use Rattle.acks.proofs.Refused as Acks
 use Rattle.sender.proofs.Refused as Sender
-use Rattle.reassembly.specs.Calls.{Lent, After, after, firstCall, followOnCall}
+use Rattle.reassembly.specs.Calls.{Lent, After, after}
+use Rattle.reassembly.specs.Shares.{firstCall, followOnCall}
 use Rattle.reassembly.specs.Careful.{Careful}
 use Rattle.reassembly.proofs.Refusals.{careful-first, careful-follow-on}
 use Rattle.reassembly.proofs.Refused as Store
@@ -25,8 +26,8 @@ others k ks n h (inr (inl e)) = absurd (h .1 e)
 others k ks n h (inr (inr e)) = e
 
 -- a careful call that refuses left everything
-stays : (x : Lent) (y : After) → Careful x y → StoreRefuses (y .reply .number) → y ≡ after (y .reply) x
-stays x y c h = go (c .refusal)
+stays : (n : ℕ) (x : Lent) (y : After) → Careful n x y → StoreRefuses (y .reply .number) → y ≡ after (y .reply) x
+stays n x y c h = go (c .refusal)
   where
     go : ((y .reply .number ≡ 0) ⊎ ((y .reply .number ≡ 60) ⊎ (y ≡ after (y .reply) x))) → y ≡ after (y .reply) x
     go (inl e) = absurd (h .0 e)
@@ -48,16 +49,16 @@ demand1 =
       ack-expanded = λ through count pairs list h. (Acks.expand-numbers through count pairs (length list) h, Acks.expand-leaves through count pairs list h);
       sender-called = λ rec c h. let z = Sender.call-leaves rec c h in (Sender.call-numbers rec c h, z .0, z .1, z .2);
       store-renewed = λ rec h. (Store.renew-numbers rec h, Store.renew-leaves rec h);
-      first-taken = λ x l second v h. (
-        others 50 (52 ∷ 53 ∷ 54 ∷ 55 ∷ 56 ∷ 57 ∷ 59 ∷ []) _ h (Store.first-numbers x l second v),
-        stays x (firstCall x l second v) (careful-first x l second v) h,
+      first-taken = λ x n l second v h. (
+        others 50 (52 ∷ 53 ∷ 54 ∷ 55 ∷ 56 ∷ 57 ∷ 58 ∷ 59 ∷ []) _ h (Store.first-numbers x n l second v),
+        stays n x (firstCall x n l second v) (careful-first x n l second v) h,
       );
-      follow-on-taken = λ x l second v h. (
-        others 50 (51 ∷ 52 ∷ 53 ∷ 54 ∷ 55 ∷ 56 ∷ 57 ∷ 59 ∷ []) _ h (Store.follow-on-numbers x l second v),
-        stays x (followOnCall x l second v) (careful-follow-on x l second v) h,
+      follow-on-taken = λ x n l second v h. (
+        others 50 (51 ∷ 52 ∷ 53 ∷ 54 ∷ 55 ∷ 56 ∷ 57 ∷ 58 ∷ 59 ∷ []) _ h (Store.follow-on-numbers x n l second v),
+        stays n x (followOnCall x n l second v) (careful-follow-on x n l second v) h,
       );
-      delivery = λ s at x second h. (
-        others 1 (2 ∷ 3 ∷ 4 ∷ 5 ∷ 6 ∷ 7 ∷ 8 ∷ 9 ∷ 50 ∷ 51 ∷ 52 ∷ 53 ∷ 54 ∷ 55 ∷ 56 ∷ 57 ∷ 59 ∷ []) _ h (Messages.delivery-numbers s at x second),
-        Messages.delivery-stays s at x second (h .0) (h .1),
+      delivery = λ s at x n second h. (
+        others 1 (2 ∷ 3 ∷ 4 ∷ 5 ∷ 6 ∷ 7 ∷ 8 ∷ 9 ∷ 50 ∷ 51 ∷ 52 ∷ 53 ∷ 54 ∷ 55 ∷ 56 ∷ 57 ∷ 58 ∷ 59 ∷ []) _ h (Messages.delivery-numbers s at x n second),
+        Messages.delivery-stays s at x n second (h .0) (h .1),
       );
     }

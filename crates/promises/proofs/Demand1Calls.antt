@@ -2,8 +2,9 @@
 use mathlib.Core.Path.{_≡_, refl, sym, ap, _∙_}
 use mathlib.Core.Bool.{false}
 use mathlib.Core.List.{List, [], _∷_}
-use Prim.Native.Nat.{ℕ, suc}
+use Prim.Native.Nat.{ℕ, suc, _≤_, _<_}
 use native.Mathlib.Omega.{arith}
+use lib.ListN.{length}
 use Rattle.header.specs.declared.Answer.the-variants as Header
 use Rattle.wire.specs.Parts.{part, splice}
 use Rattle.wire.specs.Numbers.{little, big, bigAt}
@@ -11,8 +12,13 @@ use Rattle.wire.proofs.Slices.{splice-none}
 use Rattle.blocks.specs.declared.Read.the-variants as Got
 use Rattle.blocks.specs.Extent.{followOn, takenAt, extentAt}
 use Rattle.blocks.specs.Reading.{blockAt, readAt}
-use Rattle.reassembly.specs.Calls.{Lent, lent, After, bare, lentShort, badSize, offNumber}
+use Rattle.reassembly.specs.Sizes.{roomSize, recordSize}
+use Rattle.reassembly.specs.declared.Label.{Label}
+use Rattle.reassembly.specs.Calls.{Lent, lent, After, bare, refuses, badSize, offNumber}
+use Rattle.reassembly.specs.Shares.{shareOf, shareOfRoom, followOnCall}
 use Rattle.reassembly.proofs.Branches.{follow-51}
+use Rattle.reassembly.proofs.Own.{follow-above}
+use Rattle.reassembly.proofs.OwnShare.{follow-stays}
 use Rattle.messages.specs.declared.Received.{Received}
 use Rattle.messages.specs.Delivery.{Delivery, deliveryWith, nothing, rebuiltBy, rebuilt, deliveredBy, delivered}
 use Rattle.messages.proofs.Refused.{nothing-number, nothing-start}
@@ -35,17 +41,17 @@ use Rattle.promises.specs.Demand1.{Refuses, StoreRefuses}
 use Rattle.promises.specs.Demand1Calls.{Demand1Calls}
 use Rattle.promises.proofs.Demand1.{demand1}
 
-told : (s : List ℕ) (at : ℕ) (x : Lent) (second : ℕ) (numbers : List ℕ) → StoreRefuses (deliverCall s at x second numbers .outcome .number)
-    → (deliverCall s at x second numbers .outcome .number ≡ deliveredAt s at x second .received .number)
-    × (deliverCall s at x second numbers .outcome .value ≡ at)
-    × (deliverCall s at x second numbers .told ≡ numbers)
-    × (deliverCall s at x second numbers .left ≡ x)
+told : (s : List ℕ) (at : ℕ) (x : Lent) (n second : ℕ) (numbers : List ℕ) → StoreRefuses (deliverCall s at x n second numbers .outcome .number)
+    → (deliverCall s at x n second numbers .outcome .number ≡ deliveredAt s at x n second .received .number)
+    × (deliverCall s at x n second numbers .outcome .value ≡ at)
+    × (deliverCall s at x n second numbers .told ≡ numbers)
+    × (deliverCall s at x n second numbers .left ≡ x)
 unfolding deliverCall
-told s at x second numbers h =
+told s at x n second numbers h =
     (Calls.delivery-number r, Calls.delivery-place r kept done ∙ place, Calls.told-stays r numbers kept done, ap (λ (d : Delivery). d .left) stays)
   where
     r : Received
-    r = deliveredAt s at x second .received
+    r = deliveredAt s at x n second .received
 
     kept : r .number ≡ 0 → ⊥
     kept e = h .0 (Calls.delivery-number r ∙ e)
@@ -53,8 +59,8 @@ told s at x second numbers h =
     done : r .number ≡ 60 → ⊥
     done e = h .1 (Calls.delivery-number r ∙ e)
 
-    stays : deliveredAt s at x second ≡ deliveryWith (nothing (r .number) at) x
-    stays = demand1 .delivery s at x second (kept, done) .1
+    stays : deliveredAt s at x n second ≡ deliveryWith (nothing (r .number) at) x
+    stays = demand1 .delivery s at x n second (kept, done) .1
 
     place : r .start ≡ at
     place = ap (λ (d : Delivery). d .received .start) stays ∙ nothing-start (r .number) at
@@ -132,26 +138,51 @@ short-resend = refl
 pub settled-stays : splice three 0 (settledThere three (resend 1 7)) ≡ three
 settled-stays = demand1-calls .settled-list three (resend 1 7) three (is-refusal (answerThere three (resend 1 7)) 58 short-resend)
 
--- the block at 3, whose piece the store refuses with 51, on every record and room that are long enough: the place is 3
+-- the block at 3, whose piece the store refuses on every record and room that are long enough: with 51, and where its neighbour is above 3 with 58; the place is 3
 abbrev number-0 : List ℕ
 number-0 = 15 ∷ 0 ∷ 0 ∷ 5 ∷ 0 ∷ 6 ∷ 0 ∷ 0 ∷ 0 ∷ 0 ∷ 1 ∷ 7 ∷ []
 
-module _ (rec room out : List ℕ) (long : lentShort rec room ≡ false) (second : ℕ) where
-  pub told-51 : deliveredAt number-0 3 (lent rec room out) second .received ≡ nothing 51 3
-  unfolding delivered deliveredBy rebuilt rebuiltBy readAt blockAt extentAt takenAt followOn bigAt big little part badSize offNumber bare
-  told-51 =
-      ap (λ (x : After). rebuiltBy 3 (x .reply) 1)
-      (sym (follow-51 rec room out (record { id = 1; number = 0; last = false; kind = 0; expires = 0 }) second (7 ∷ []) (bare 51) long refl refl refl))
+abbrev label : Label
+label = record { id = 1; number = 0; last = false; kind = 0; expires = 0 }
 
-  refused-51 : StoreRefuses (deliverCall number-0 3 (lent rec room out) second three .outcome .number)
+module _ (rec room out : List ℕ) (long : recordSize ≤ length rec) (wide : roomSize ≤ length room) (second : ℕ) where
+  -- what it delivers, by the store's reply
+  by-reply : (n m : ℕ) → followOnCall (lent rec room out) n label second (7 ∷ []) ≡ refuses m (lent rec room out) → rebuiltBy 3 (bare m) 1 ≡ nothing m 3
+      → deliveredAt number-0 3 (lent rec room out) n second .received ≡ nothing m 3
+  unfolding delivered deliveredBy rebuilt readAt blockAt extentAt takenAt followOn bigAt big little part
+  by-reply n m e b = ap (λ (x : After). rebuiltBy 3 (x .reply) 1) e ∙ b
+
+  -- so the call refuses
+  refused-by : (n m : ℕ) → (m ≡ 0 → ⊥) → (m ≡ 60 → ⊥) → deliveredAt number-0 3 (lent rec room out) n second .received ≡ nothing m 3
+      → StoreRefuses (deliverCall number-0 3 (lent rec room out) n second three .outcome .number)
   unfolding deliverCall
-  refused-51 = refuses _ (Calls.delivery-number (deliveredAt number-0 3 (lent rec room out) second .received) ∙ ap (λ (r : Received). r .number) told-51 ∙ nothing-number 51 3)
-    where
-      refuses : (n : ℕ) → n ≡ 51 → StoreRefuses n
-      refuses n e = (λ z. omega arith, λ z. omega arith)
+  refused-by n m kept done e =
+      let q : deliverCall number-0 3 (lent rec room out) n second three .outcome .number ≡ m =
+      Calls.delivery-number (deliveredAt number-0 3 (lent rec room out) n second .received) ∙ ap (λ (r : Received). r .number) e ∙ nothing-number m 3 in
+      (λ z. kept (sym q ∙ z), λ z. done (sym q ∙ z))
 
-  pub told-place : deliverCall number-0 3 (lent rec room out) second three .outcome .value ≡ 3
-  told-place = demand1-calls .told number-0 3 (lent rec room out) second three refused-51 .1
+  module _ (n : ℕ) (one : n ≤ 3) where
+    pub told-51 : deliveredAt number-0 3 (lent rec room out) n second .received ≡ nothing 51 3
+    unfolding rebuiltBy badSize offNumber bare
+    told-51 =
+        by-reply n 51
+        (follow-stays (lent rec room out) n long wide one label second (7 ∷ []) (bare 51)
+        (sym (follow-51 (shareOf rec n) (shareOfRoom room n) out label second (7 ∷ []) (bare 51) refl refl refl)))
+        refl
 
-  pub told-stays : deliverCall number-0 3 (lent rec room out) second three .told ≡ three
-  told-stays = demand1-calls .told number-0 3 (lent rec room out) second three refused-51 .2
+    refused-51 : StoreRefuses (deliverCall number-0 3 (lent rec room out) n second three .outcome .number)
+    refused-51 = refused-by n 51 (λ z. omega arith) (λ z. omega arith) told-51
+
+    pub told-place : deliverCall number-0 3 (lent rec room out) n second three .outcome .value ≡ 3
+    told-place = demand1-calls .told number-0 3 (lent rec room out) n second three refused-51 .1
+
+    pub told-stays : deliverCall number-0 3 (lent rec room out) n second three .told ≡ three
+    told-stays = demand1-calls .told number-0 3 (lent rec room out) n second three refused-51 .2
+
+  module _ (n : ℕ) (above : 3 < n) where
+    pub told-58 : deliveredAt number-0 3 (lent rec room out) n second .received ≡ nothing 58 3
+    unfolding rebuiltBy bare
+    told-58 = by-reply n 58 (follow-above (lent rec room out) n long wide above label second (7 ∷ [])) refl
+
+    pub unknown-stays : deliverCall number-0 3 (lent rec room out) n second three .left ≡ lent rec room out
+    unknown-stays = demand1-calls .told number-0 3 (lent rec room out) n second three (refused-by n 58 (λ z. omega arith) (λ z. omega arith) told-58) .3

@@ -2,9 +2,9 @@
 use mathlib.Core.Path.{_≡_, refl, sym, ap}
 use mathlib.Core.Bool.{false}
 use mathlib.Core.List.{List, [], _∷_}
-use Prim.Native.Nat.{ℕ, zero, suc, _<_}
+use Prim.Native.Nat.{ℕ, zero, suc, _≤_, _<_}
 use native.Mathlib.Omega.{arith}
-use lib.ListN.{replicate}
+use lib.ListN.{length, replicate}
 use Rattle.wire.specs.Parts.{part}
 use Rattle.wire.specs.Numbers.{Bytes, little, littleAt, big, bigAt}
 use Rattle.header.specs.declared.Fields.{Fields}
@@ -29,8 +29,12 @@ use Rattle.acks.specs.Runs.{wholePairs, runSum}
 use Rattle.acks.specs.Expanding.{expandAnswer, goesBelow, expandOf, listAfter}
 use Rattle.acks.proofs.Cases.{case-j}
 use Rattle.reassembly.specs.declared.Label.{Label}
-use Rattle.reassembly.specs.Calls.{lent, After, after, bare, lentShort, badSize, offNumber, firstCall, followOnCall, renewal, renewed}
+use Rattle.reassembly.specs.Sizes.{roomSize, recordSize}
+use Rattle.reassembly.specs.Calls.{lent, After, after, bare, badSize, offNumber}
+use Rattle.reassembly.specs.Shares.{shareOf, shareOfRoom, firstCall, followOnCall, renewal, renewed}
 use Rattle.reassembly.proofs.Branches.{first-50, follow-51}
+use Rattle.reassembly.proofs.Own.{first-above}
+use Rattle.reassembly.proofs.OwnShare as Own
 use Rattle.messages.specs.Delivery.{deliveryWith, nothing, delivered}
 use Rattle.promises.specs.Demand1.{StoreRefuses}
 use Rattle.promises.proofs.Demand1.{demand1}
@@ -139,34 +143,51 @@ pub unrenewed-stays : renewed two ≡ two
 unrenewed-stays = demand1 .store-renewed two (is-refusal (renewal two) 58 no-store) .1
 
 -- on every record and room that are long enough, an empty piece is 50, and a follow-on of number 0 is 51
-module _ (rec room out : List ℕ) (long : lentShort rec room ≡ false) (second : ℕ) where
+module _ (rec room out : List ℕ) (long : recordSize ≤ length rec) (wide : roomSize ≤ length room) (second : ℕ) where
   abbrev label : Label
   label = record { id = 1; number = 0; last = false; kind = 20; expires = 9 }
 
-  pub no-bytes : firstCall (lent rec room out) label second [] .reply .number ≡ 50
-  unfolding badSize bare
-  no-bytes = sym (ap (λ (x : After). x .reply .number) (first-50 rec room out label second [] (bare 50) long refl refl))
+  module _ (n : ℕ) (one : n ≤ 3) where
+    pub no-bytes : firstCall (lent rec room out) n label second [] .reply .number ≡ 50
+    unfolding badSize bare
+    no-bytes =
+        ap (λ (x : After). x .reply .number)
+        (Own.first-stays (lent rec room out) n long wide one label second [] (bare 50) (sym (first-50 (shareOf rec n) (shareOfRoom room n) out label second [] (bare 50) refl refl)))
 
-  pub first-stays : firstCall (lent rec room out) label second [] ≡ after (firstCall (lent rec room out) label second [] .reply) (lent rec room out)
-  first-stays =
-      demand1 .first-taken (lent rec room out) label second []
-      (store-refusal (firstCall (lent rec room out) label second [] .reply .number) 49 no-bytes (omega arith)) .1
+    pub first-stays : firstCall (lent rec room out) n label second [] ≡ after (firstCall (lent rec room out) n label second [] .reply) (lent rec room out)
+    first-stays =
+        demand1 .first-taken (lent rec room out) n label second []
+        (store-refusal (firstCall (lent rec room out) n label second [] .reply .number) 49 no-bytes (omega arith)) .1
 
-  pub no-number : followOnCall (lent rec room out) label second (7 ∷ []) .reply .number ≡ 51
-  unfolding badSize offNumber bare
-  no-number = sym (ap (λ (x : After). x .reply .number) (follow-51 rec room out label second (7 ∷ []) (bare 51) long refl refl refl))
+    pub no-number : followOnCall (lent rec room out) n label second (7 ∷ []) .reply .number ≡ 51
+    unfolding badSize offNumber bare
+    no-number =
+        ap (λ (x : After). x .reply .number)
+        (Own.follow-stays (lent rec room out) n long wide one label second (7 ∷ []) (bare 51) (sym (follow-51 (shareOf rec n) (shareOfRoom room n) out label second (7 ∷ []) (bare 51) refl refl refl)))
 
-  pub follow-on-stays : followOnCall (lent rec room out) label second (7 ∷ []) ≡ after (followOnCall (lent rec room out) label second (7 ∷ []) .reply) (lent rec room out)
-  follow-on-stays =
-      demand1 .follow-on-taken (lent rec room out) label second (7 ∷ [])
-      (store-refusal (followOnCall (lent rec room out) label second (7 ∷ []) .reply .number) 50 no-number (omega arith)) .1
+    pub follow-on-stays : followOnCall (lent rec room out) n label second (7 ∷ []) ≡ after (followOnCall (lent rec room out) n label second (7 ∷ []) .reply) (lent rec room out)
+    follow-on-stays =
+        demand1 .follow-on-taken (lent rec room out) n label second (7 ∷ [])
+        (store-refusal (followOnCall (lent rec room out) n label second (7 ∷ []) .reply .number) 50 no-number (omega arith)) .1
 
-  -- (d), delivered
-  pub no-delivery : delivered bad-address 0 (lent rec room out) second (readAt bad-address 0) .received .number ≡ 8
+  -- a neighbour above 3 is 58, though the piece is empty
+  module _ (n : ℕ) (above : 3 < n) where
+    pub no-neighbour : firstCall (lent rec room out) n label second [] .reply .number ≡ 58
+    unfolding bare
+    no-neighbour = ap (λ (x : After). x .reply .number) (first-above (lent rec room out) n long wide above label second [])
+
+    pub unknown-stays : firstCall (lent rec room out) n label second [] ≡ after (firstCall (lent rec room out) n label second [] .reply) (lent rec room out)
+    unknown-stays =
+        demand1 .first-taken (lent rec room out) n label second []
+        (store-refusal (firstCall (lent rec room out) n label second [] .reply .number) 57 no-neighbour (omega arith)) .1
+
+-- (d), delivered: no piece, so that neither 59 nor 58 is asked
+module _ (rec room out : List ℕ) (n second : ℕ) where
+  pub no-delivery : delivered bad-address 0 (lent rec room out) n second (readAt bad-address 0) .received .number ≡ 8
   unfolding delivered nothing readAt extentAt takenAt address bigAt big little part
   no-delivery = refl
 
-  pub delivery-stays : delivered bad-address 0 (lent rec room out) second (readAt bad-address 0) ≡ deliveryWith (nothing (delivered bad-address 0 (lent rec room out) second (readAt bad-address 0) .received .number) 0) (lent rec room out)
+  pub delivery-stays : delivered bad-address 0 (lent rec room out) n second (readAt bad-address 0) ≡ deliveryWith (nothing (delivered bad-address 0 (lent rec room out) n second (readAt bad-address 0) .received .number) 0) (lent rec room out)
   delivery-stays =
-      demand1 .delivery bad-address 0 (lent rec room out) second
-      (store-refusal (delivered bad-address 0 (lent rec room out) second (readAt bad-address 0) .received .number) 7 no-delivery (omega arith)) .1
+      demand1 .delivery bad-address 0 (lent rec room out) n second
+      (store-refusal (delivered bad-address 0 (lent rec room out) n second (readAt bad-address 0) .received .number) 7 no-delivery (omega arith)) .1

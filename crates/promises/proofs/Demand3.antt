@@ -11,13 +11,15 @@ use lib.ListN.{length, getD, set, length-set, replicate, length-replicate, lengt
 use lib.Seq.{getD-set-same, getD-set-other, ext-getD}
 use lib.Dec.{eqb}
 use borrow.Author.Tests.{eq-eqb, ne-eqb}
-use Rattle.reassembly.specs.Sizes.{messageSize, mostRemembered}
+use Rattle.reassembly.specs.Sizes.{messageSize}
 use Rattle.reassembly.specs.Memory.{Memory, remembers, remember, forget}
 use Rattle.reassembly.specs.Store.{Piece, idOf, Message, Slots, Store, badLength, badNumber, slotsStep, refused, answerBySlots}
+use Rattle.reassembly.specs.Runs.{Said, saidOf}
 use Rattle.reassembly.proofs.Stores.{none≢some, all-same}
 use Rattle.reassembly.proofs.Memories.{remember-other, forget-remembers}
 use Rattle.reassembly.proofs.Moves.{step-57, step-slots}
-use Rattle.promises.specs.Demand3.{Cut, Within, pieceOf, noCut, Event, deliver, sweepAt, Tally, noTally, allMarks, begun, done, isOpen, marked, untouched, tallied, Past, start, note, pastAfter, count, Allowed, Orderly, Schedule, Said, dueOne, due, act, saidOf, said, storeAfter, timesOne, times, Demand3For, Demand3}
+use Rattle.reassembly.proofs.Runs.{said-of}
+use Rattle.promises.specs.Demand3.{Cut, Within, pieceOf, noCut, Event, deliver, sweepAt, Tally, noTally, allMarks, begun, done, isOpen, marked, untouched, tallied, Past, start, note, pastAfter, count, Allowed, Orderly, Schedule, dueOne, due, act, said, storeAfter, timesOne, times, Demand3For}
 use Rattle.promises.proofs.Demand3Marks.{any-replicate, set-mark}
 use Rattle.promises.proofs.Demand3Rebuilt.{id-piece, good-length, good-number}
 use Rattle.promises.proofs.Demand3Slots.{isFull}
@@ -135,7 +137,7 @@ module _ (slots keep cap : ℕ) (room : messageSize ≤ cap) (cs : List Cut) (wi
         answer-is = unfold act in step-57 keep cap s p second not-50 not-51 (is-remembered true (a .2 d))
 
         said-is : saidOf (act keep cap cs s (deliver c i second)) ≡ dueOne cs ts (deliver c i second)
-        said-is = unfold saidOf dueOne in rw (answer-is, d) refl
+        said-is = said-of (act keep cap cs s (deliver c i second)) ∙ (unfold dueOne in rw (answer-is, d) refl)
 
         kept-is : Kept slots cs (note keep cs h (deliver c i second)) (act keep cap cs s (deliver c i second) .store)
         kept-is = unfold note in rw (answer-is, d) v
@@ -205,7 +207,7 @@ module _ (slots keep cap : ℕ) (room : messageSize ≤ cap) (cs : List Cut) (wi
       current = record { as-due = said-is; kept = rw (answer-is, noted keep cs h c i second nd) (record { inv = inv′; same = memory-is; fresh = fresh′ }) }
         where
           said-is : saidOf (act keep cap cs s (deliver c i second)) ≡ dueOne cs ts (deliver c i second)
-          said-is = ap saidOf answer-is ∙ (unfold saidOf slotsSaid in (taken .0))
+          said-is = ap saidOf answer-is ∙ (said-of (answerBySlots keep s id second (slotsStep cap (s .slots) p second)) ∙ (unfold slotsSaid in (taken .0)))
 
           inv′ : Inv slots cs ts′ (answerBySlots keep s id second (slotsStep cap (s .slots) p second) .store .slots)
           inv′ = (taken .1)
@@ -220,7 +222,7 @@ module _ (slots keep cap : ℕ) (room : messageSize ≤ cap) (cs : List Cut) (wi
       go : (b : Bool) → done (tallyAt (h .tallies) c) ≡ b → Answered slots keep cap cs h s (deliver c i second)
       go true d = late c i second a d
       go false d = current c i second a d (subst (λ (x : Past). Orderly slots cs (x .tallies)) (noted keep cs h c i second d) o)
-  one-event (sweepAt second) a o = record { as-due = unfold saidOf act dueOne in refl; kept = swept }
+  one-event (sweepAt second) a o = record { as-due = said-of (act keep cap cs s (sweepAt second)) ∙ (unfold act dueOne in refl); kept = swept }
     where
       swept : Kept slots cs (note keep cs h (sweepAt second)) (act keep cap cs s (sweepAt second) .store)
       swept = unfold act note in record {
@@ -338,7 +340,3 @@ demand3-for slots keep cap room cs within s empty es q =
       ends-empty = r .empty;
       remembers-due = r .memory;
     }
-
--- Demand 3
-pub demand3 : Demand3
-demand3 = demand3-for 16 mostRemembered

@@ -1,66 +1,57 @@
--- Demand 3 of the payloads' blocks, carried over from the store by what a delivery is of the store. Assumes nothing.
+-- Demand 3 of the payloads' blocks: what a neighbour hands in is to its share what the share's store says it is, and no other neighbour moves it. Assumes nothing.
 use mathlib.Core.Path.{_≡_, refl, sym, ap, _∙_, subst}
 use mathlib.Core.Bool.{Bool, true, false, cond}
 use mathlib.Core.List.{List, [], _∷_}
-use mathlib.Core.Option.{none, some}
+use mathlib.Core.Option.{Option, none, some}
 use Prim.Native.Nat.{ℕ, zero, suc, _+_, _<_, _≤_}
 use native.Mathlib.Omega.{arith}
 use lib.Dec.{eqb}
 use lib.ListN.{length, getD}
 use Rattle.blocks.specs.declared.Block.{Block}
 use Rattle.blocks.specs.declared.Block.the-variants as Body
-use Rattle.blocks.specs.Reading.{bytesAt}
+use Rattle.blocks.specs.Reading.{bytesAt, readAt}
 use Rattle.blocks.specs.Writing.{sizeOf}
 use Rattle.blocks.proofs.Puts.{is-length}
 use Rattle.blocks.proofs.Faults.{first-whole, follow-on-whole}
 use Rattle.blocks.proofs.WriteThenRead.{write-then-read}
 use Rattle.reassembly.specs.Sizes.{messageSize, mostRemembered}
-use Rattle.reassembly.specs.Store.{Piece, first, follow, idOf, pieceBytes, Store, Rebuilt, step}
-use Rattle.reassembly.specs.Stands.{stands, Made, laidOut}
+use Rattle.reassembly.specs.Store.{Piece, first, follow, pieceBytes, Store, Rebuilt, step}
+use Rattle.reassembly.specs.Runs.{Said, saidOf}
+use Rattle.reassembly.specs.Calls.{lent, After}
+use Rattle.reassembly.specs.Shares.{shareOf, shareOfRoom}
+use Rattle.reassembly.specs.Turns.{Turned, saidEach, recordLeft, roomLeft}
+use Rattle.reassembly.specs.Stands.{stands, Made, laidOut, Agrees}
 use Rattle.reassembly.proofs.Stores.{step-enough}
-use Rattle.reassembly.proofs.Swept.{sweep-stands, sweep-made}
+use Rattle.reassembly.proofs.Swept.{swept-stands, share-swept-made}
+use Rattle.reassembly.proofs.Runs.{said-of}
+use Rattle.reassembly.proofs.Brought.{step-sober}
+use Rattle.reassembly.proofs.Alone.{Alone, alone}
 use Rattle.messages.specs.declared.Received.{Received}
-use Rattle.messages.specs.Delivery.{Delivery, deliveredBy}
-use Rattle.messages.specs.OfStore.{receivedFor, OfStore}
-use Rattle.messages.proofs.OfStore.{first-of-store, follow-of-store, read-delivers, received-kept, received-refused, received-whole}
+use Rattle.messages.specs.Delivery.{rebuiltBy}
+use Rattle.messages.specs.OfStore.{receivedFor}
+use Rattle.messages.proofs.OfStore.{received-kept, received-refused, received-whole}
+use Rattle.messages.proofs.Pieces.{pieceIn, received-is}
 use Rattle.numbers_outcomes.specs.declared.Outcome.{Outcome}
-use Rattle.numbers_outcomes.specs.Outcomes.{outcome}
-use Rattle.numbers_outcomes.specs.Deliveries.{deliveryOutcome, deliveryNumbers, deliveredAt, toldBy, deliverCall}
+use Rattle.numbers_outcomes.specs.Deliveries.{deliveryOutcome, deliveryNumbers}
 use Rattle.numbers_outcomes.proofs.DeliveryLaws.{told-kept, told-refused, told-finished}
-use Rattle.promises.specs.Demand3.{Cut, pieceOf, cutFrom, noCut, Event, deliver, sweepAt, Tally, noTally, done, marked, Past, note, Said, dueOne, due, times, act, saidOf, said, storeAfter, Fulfilled}
+use Rattle.promises.specs.Demand3.{Cut, pieceOf, cutFrom, noCut, Event, deliver, sweepAt, Tally, noTally, done, marked, Past, note, dueOne, due, act, said, storeAfter, Fulfilled}
 use Rattle.promises.specs.Demand3Calls.{secondOf, startAt, LongEnough}
-use Rattle.promises.specs.Demand3Deliveries.{HasPiece, Loan, HandedOne, Handed, tellsOf, handed, tellings, handedLast, outcomeDue, toldOf, toldDue, tellsDue, allDue, Demand3Deliveries, WrittenIsHanded}
-use Rattle.promises.proofs.Demand3.{demand3}
-use Rattle.reassembly.specs.Calls.{lent}
+use Rattle.promises.specs.Demand3Deliveries.{HasPiece, Loan, Tells, handCall, meets, lastRec, lastRoom, handingOne, handings, HandedOne, Handed, outcomeDue, toldOf, toldDue, tellsDue, allDue, Demand3Deliveries, WrittenIsHanded}
+use Rattle.promises.proofs.Demand3.{demand3-for}
+use Rattle.promises.proofs.StoreTurns.{pieceTaken, piece-agrees}
+use Rattle.promises.proofs.Demand3Calls.{piece-fits, ends-of}
+use Rattle.promises.proofs.HandTurns.{pieceTurn, ownOf, ownHand, hand-of}
 
--- a piece's id and expiration have four bytes
-abbrev InWidth : Piece → Type 0
-InWidth (first id kind expires bytes) = (id < 4294967296) × (expires < 4294967296)
-InWidth (follow id number final bytes) = id < 4294967296
+-- the block at a place has this piece, if it has one
+piece-in : (s : List ℕ) (at : ℕ) (p : Piece) → HasPiece s at p → pieceIn s (readAt s at) ≡ some p
+piece-in s at (first id kind expires bytes) h = ap (pieceIn s) (h .read) ∙ ap (λ (v : List ℕ). some (first id kind expires v)) (h .same-bytes)
+piece-in s at (follow id number final bytes) h = ap (pieceIn s) (h .read) ∙ ap (λ (v : List ℕ). some (follow id number final v)) (h .same-bytes)
 
--- the block at a place that has a piece delivers what the store's step answers to the piece
-carried : (s : List ℕ) (at : ℕ) (rec room out : List ℕ) (p : Piece) (second : ℕ) → HasPiece s at p → InWidth p → second < 18446744073709551616 → Made rec room
-    → OfStore s at (idOf p) out (deliveredAt s at (lent rec room out) second) (step mostRemembered (length out) (stands rec room) p second)
-unfolding idOf
-carried s at rec room out (first id kind expires bytes) second h w hs m =
-    subst (λ (x : Delivery). OfStore s at id out x (step mostRemembered (length out) (stands rec room) (first id kind expires bytes) second))
-    (sym (read-delivers s at rec room out second (Body.FirstFragment kind id expires (h .body)) (h .size) (h .next) (h .read)))
-    (subst (λ (v : List ℕ). OfStore s at id out (deliveredBy s at (lent rec room out) second (Body.FirstFragment kind id expires (h .body))) (step mostRemembered (length out) (stands rec room) (first id kind expires v) second))
-    (h .same-bytes) (first-of-store s at rec room out second kind id expires (h .body) m (w .0) (w .1) hs))
-carried s at rec room out (follow id number final bytes) second h w hs m =
-    subst (λ (x : Delivery). OfStore s at id out x (step mostRemembered (length out) (stands rec room) (follow id number final bytes) second))
-    (sym (read-delivers s at rec room out second (Body.FollowOnFragment number final id (h .body)) (h .size) (h .next) (h .read)))
-    (subst (λ (v : List ℕ). OfStore s at id out (deliveredBy s at (lent rec room out) second (Body.FollowOnFragment number final id (h .body))) (step mostRemembered (length out) (stands rec room) (follow id number final v) second))
-    (h .same-bytes) (follow-of-store s at rec room out second number final id (h .body) m w hs))
-
-piece-id : (c : Cut) (i : ℕ) → idOf (pieceOf c i) ≡ c .id
-unfolding idOf
-piece-id c zero = refl
-piece-id c (suc i) = refl
-
-piece-in-width : (c : Cut) (i : ℕ) → c .id < 4294967296 → c .expires < 4294967296 → InWidth (pieceOf c i)
-piece-in-width c zero a b = (a, b)
-piece-in-width c (suc i) a b = a
+-- a cut message's piece, on a share
+piece-own : (c : Cut) (i : ℕ) (l : Loan) (second : ℕ) (s m : List ℕ) → ownOf (some (pieceOf c i)) l second s m ≡ pieceTurn l (c .id) (pieceTaken (lent s m (l .out)) (pieceOf c i) second)
+unfolding ownOf
+piece-own c zero l second s m = refl
+piece-own c (suc i) l second s m = refl
 
 -- what is said of a schedule: 57, 54, 0 and 60, a message with 60 alone
 data Calm : Said → Type 0 where
@@ -94,65 +85,80 @@ calm-tells at id told d repeated =
 calm-tells at id told d kept = by-numbers told (received-kept at id) (told-kept told)
 calm-tells at id told d (finished w) = by-numbers told (received-whole at id 60 w) (told-finished told (w .kind) id (w .expires) 0 (length (w .bytes)))
 
-delivery-tells : (l : Loan) (x : Delivery) (d : Said) (id : ℕ) → Calm d → x .received ≡ receivedFor (l .at) id (d .number) (d .out) → x .left .out ≡ laidOut (l .out) (d .out)
-    → tellsOf (toldBy x (l .told)) ≡
-    (record { outcome = outcomeDue (l .at) d; out = laidOut (l .out) (d .out); told = toldDue id (l .told) d })
-delivery-tells l x d id calm r o =
-    let t = calm-tells (l .at) id (l .told) d calm in
-    let a : deliveryOutcome (x .received) ≡ outcomeDue (l .at) d = ap deliveryOutcome r ∙ t .0 in
-    let b : deliveryNumbers (x .received) (l .told) ≡ toldDue id (l .told) d = ap (λ (z : Received). deliveryNumbers z (l .told)) r ∙ t .1 in
-    λ i. record { outcome = a i; out = o i; told = b i }
+-- ---- a schedule on a share
 
-module _ (loans : ℕ → Loan) (long : LongEnough (λ n. loans n .out)) (cs : List Cut)
+module _ (n : ℕ) (loans : ℕ → Loan) (long : LongEnough (λ k. loans k .out)) (cs : List Cut)
     (hi : (c : ℕ) → getD cs c noCut .id < 4294967296) (hx : (c : ℕ) → getD cs c noCut .expires < 4294967296) where
-  -- one event
-  event : (n : ℕ) (rec room : List ℕ) → Made rec room → (e : Event) → secondOf e < 18446744073709551616 → HandedOne cs (loans n) e
-      → (d : Said) → Calm d → saidOf (act mostRemembered messageSize cs (stands rec room) e) ≡ d
-      → (tellsOf (handed (loans n) rec room e) ≡ tellsDue cs (loans n) e d)
-      × (stands (handed (loans n) rec room e .left .rec) (handed (loans n) rec room e .left .room) ≡ act mostRemembered messageSize cs (stands rec room) e .store)
-      × Made (handed (loans n) rec room e .left .rec) (handed (loans n) rec room e .left .room)
-  unfolding handed deliverCall act saidOf tellsDue
-  event n rec room m (sweepAt second) hs h d calm q = (refl, sweep-stands second rec room (m .slots-made .record-long), sweep-made second rec room m)
-  event n rec room m (deliver c i second) hs h d calm q =
-      let p = pieceOf (getD cs c noCut) i in
-      let l = loans n in
-      let x : Delivery = deliveredAt (l .payload) (l .at) (lent rec room (l .out)) second in
-      let o : OfStore (l .payload) (l .at) (getD cs c noCut .id) (l .out) x (step mostRemembered messageSize (stands rec room) p second) =
-      subst (λ (k : ℕ). OfStore (l .payload) (l .at) k (l .out) x (step mostRemembered messageSize (stands rec room) p second)) (piece-id (getD cs c noCut) i)
-      (subst (OfStore (l .payload) (l .at) (idOf p) (l .out) x) (step-enough mostRemembered (length (l .out)) (long n) (stands rec room) p second)
-      (carried (l .payload) (l .at) rec room (l .out) p second h (piece-in-width (getD cs c noCut) i (hi c) (hx c)) hs m))
-      in (
-        delivery-tells l x d (getD cs c noCut .id) calm
-            (o .received ∙ ap (λ (z : Said). receivedFor (l .at) (getD cs c noCut .id) (z .number) (z .out)) q)
-            (o .buffer ∙ ap (λ (z : Said). laidOut (l .out) (z .out)) q),
-        o .store,
-        o .made,
-      )
+  -- an event: what is told where d is said to it, what the share stands for then, and that it is again one that calls made
+  record Done (k : ℕ) (s m : List ℕ) (e : Event) (d : Said) (t : Turned Tells) : Type 0 where
+    tells : t .said ≡ tellsDue cs (loans k) e d
+    store : stands (t .rec) (t .room) ≡ act mostRemembered messageSize cs (stands s m) e .store
+    made : Made (t .rec) (t .room)
 
-  runs : (es : List Event) (n : ℕ) (past : Past) (rec room : List ℕ) → Made rec room → ((k : ℕ) → secondOf (getD es k (sweepAt 0)) < 18446744073709551616)
-      → Handed cs loans n es → said mostRemembered messageSize cs (stands rec room) es ≡ due mostRemembered cs past es
-      → (tellings loans n rec room es ≡ allDue cs loans n es (due mostRemembered cs past es))
-      × (stands (handedLast loans n rec room es .rec) (handedLast loans n rec room es .room) ≡ storeAfter mostRemembered messageSize cs (stands rec room) es)
-      × Made (handedLast loans n rec room es .rec) (handedLast loans n rec room es .room)
-  runs [] n past rec room m hs h q = (refl, refl, m)
-  runs (e ∷ es) n past rec room m hs h q =
-      let here : saidOf (act mostRemembered messageSize cs (stands rec room) e) ≡ dueOne cs (past .tallies) e = cc in
-      let then : said mostRemembered messageSize cs (act mostRemembered messageSize cs (stands rec room) e .store) es ≡ due mostRemembered cs (note mostRemembered cs past e) es = cc in
-      let v = event n rec room m e (hs 0) (h .0) (dueOne cs (past .tallies) e) (due-calm cs (past .tallies) e) here in
-      let ih = runs es (suc n) (note mostRemembered cs past e) (handed (loans n) rec room e .left .rec) (handed (loans n) rec room e .left .room) (v .2) (λ k. hs (suc k)) (h .1) (ap (λ (s : Store). said mostRemembered messageSize cs s es) (v .1) ∙ then) in
-      (rw (v .0, ih .0) refl, ih .1 ∙ ap (λ (s : Store). storeAfter mostRemembered messageSize cs s es) (v .1), ih .2)
+  event : (k : ℕ) (s m : List ℕ) → Made s m → (e : Event) → secondOf e < 18446744073709551616 → HandedOne cs (loans k) e
+      → (d : Said) → Calm d → saidOf (act mostRemembered messageSize cs (stands s m) e) ≡ d → Done k s m e d (ownHand s m (handingOne n (loans k) e))
+  unfolding ownHand act tellsDue
+  event k s m g (sweepAt second) hs h d calm q =
+      record { tells = refl; store = swept-stands second s m (g .slots-made .record-long); made = share-swept-made second s m g }
+  event k s m g (deliver c i second) hs h d calm q =
+      let cut : Cut = getD cs c noCut in
+      let l : Loan = loans k in
+      let p : Piece = pieceOf cut i in
+      let y : After = pieceTaken (lent s m (l .out)) p second in
+      let w : step mostRemembered (length (l .out)) (stands s m) p second ≡ step mostRemembered messageSize (stands s m) p second = step-enough mostRemembered (length (l .out)) (long k) (stands s m) p second in
+      let a : Agrees (l .out) y (step mostRemembered messageSize (stands s m) p second) =
+      subst (Agrees (l .out) y) w (piece-agrees s m (l .out) g p second (piece-fits cut i second (hi c) (hx c) hs)) in
+      let is : ownOf (pieceIn (l .payload) (readAt (l .payload) (l .at))) l second s m ≡ pieceTurn l (cut .id) y =
+      ap (λ (o : Option Piece). ownOf o l second s m) (piece-in (l .payload) (l .at) p h) ∙ piece-own cut i l second s m in
+      let said-is : (record { number = step mostRemembered messageSize (stands s m) p second .number; out = step mostRemembered messageSize (stands s m) p second .out }) ≡ d =
+      sym (said-of (step mostRemembered messageSize (stands s m) p second)) ∙ q in
+      let r : rebuiltBy (l .at) (y .reply) (cut .id) ≡ receivedFor (l .at) (cut .id) (d .number) (d .out) =
+      received-is (l .at) (cut .id) messageSize (step mostRemembered messageSize (stands s m) p second .number) (step mostRemembered messageSize (stands s m) p second .out) y (l .out)
+      (a .reply) (a .delivered) (step-sober mostRemembered messageSize (stands s m) p second)
+      ∙ ap (λ (z : Said). receivedFor (l .at) (cut .id) (z .number) (z .out)) said-is in
+      let o : y .left .out ≡ laidOut (l .out) (d .out) = a .delivered ∙ ap (λ (z : Said). laidOut (l .out) (z .out)) said-is in
+      let t = by-numbers (l .told) r (calm-tells (l .at) (cut .id) (l .told) d calm) in
+      rw is
+      (record {
+        tells = λ j. record { outcome = t .0 j; out = o j; told = t .1 j };
+        store = a .store;
+        made = a .made;
+      })
+
+  -- all of them
+  record AllDone (k : ℕ) (s m : List ℕ) (past : Past) (es : List Event) : Type 0 where
+    tells : saidEach ownHand s m (handings n loans k es) ≡ allDue cs loans k es (due mostRemembered cs past es)
+    store : stands (recordLeft ownHand s m (handings n loans k es)) (roomLeft ownHand s m (handings n loans k es)) ≡ storeAfter mostRemembered messageSize cs (stands s m) es
+    made : Made (recordLeft ownHand s m (handings n loans k es)) (roomLeft ownHand s m (handings n loans k es))
+
+  runs : (es : List Event) (k : ℕ) (past : Past) (s m : List ℕ) → Made s m → ((j : ℕ) → secondOf (getD es j (sweepAt 0)) < 18446744073709551616)
+      → Handed cs loans k es → said mostRemembered messageSize cs (stands s m) es ≡ due mostRemembered cs past es → AllDone k s m past es
+  runs [] k past s m g hs h q = record { tells = refl; store = refl; made = g }
+  runs (e ∷ es) k past s m g hs h q =
+      let here : saidOf (act mostRemembered messageSize cs (stands s m) e) ≡ dueOne cs (past .tallies) e = cc in
+      let then : said mostRemembered messageSize cs (act mostRemembered messageSize cs (stands s m) e .store) es ≡ due mostRemembered cs (note mostRemembered cs past e) es = cc in
+      let v = event k s m g e (hs 0) (h .0) (dueOne cs (past .tallies) e) (due-calm cs (past .tallies) e) here in
+      let t : Turned Tells = ownHand s m (handingOne n (loans k) e) in
+      let ih = runs es (suc k) (note mostRemembered cs past e) (t .rec) (t .room) (v .made) (λ j. hs (suc j)) (h .1) (ap (λ (z : Store). said mostRemembered messageSize cs z es) (v .store) ∙ then) in
+      record {
+        tells = rw (v .tells, ih .tells) refl;
+        store = ih .store ∙ ap (λ (z : Store). storeAfter mostRemembered messageSize cs z es) (v .store);
+        made = ih .made;
+      }
 
 -- Demand 3, of the payloads' blocks
 pub demand3-deliveries : Demand3Deliveries
-demand3-deliveries loans long rec room m z cs within es widths h q =
-    let o : Fulfilled 16 mostRemembered messageSize cs (stands rec room) es = demand3 messageSize (omega arith) cs within (stands rec room) z es q in
-    let r = runs loans long cs (widths .ids) (widths .expirations) es 0 (startAt cs rec) rec room m (widths .seconds) h (o .as-due) in
+demand3-deliveries n one loans long rec room b cs within es widths h q turns asks =
+    let s : List ℕ = shareOf rec n in
+    let m : List ℕ = shareOfRoom room n in
+    let o : Fulfilled 4 mostRemembered messageSize cs (stands s m) es = demand3-for 4 mostRemembered messageSize (omega arith) cs within (stands s m) (b .none-open) es q in
+    let r = runs n loans long cs (widths .ids) (widths .expirations) es 0 (startAt n cs rec) s m (b .own-made .share-made) (widths .seconds) h (o .as-due) in
+    let a : Alone handCall ownHand (meets n) n rec room s m turns =
+    alone handCall ownHand (meets n) n (λ rec room long wide t. hand-of n one rec room long wide t) rec room (b .own-made .record-long) (b .own-made .room-long) turns in
     record {
-      tells = r .0;
-      once = λ c i. ap (times c es) (sym (o .as-due)) ∙ o .once c i;
-      ends-empty = ap (λ (s : Store). s .slots) (r .1) ∙ o .ends-empty;
-      remembers-due = ap (λ (s : Store). s .remembered) (r .1) ∙ o .remembers-due;
-      made = r .2;
+      tells = a .told ∙ ap (saidEach ownHand s m) asks ∙ r .tells;
+      ends = ends-of n cs rec room es (lastRec rec room turns) (lastRoom rec room turns) (recordLeft ownHand s m (handings n loans 0 es)) (roomLeft ownHand s m (handings n loans 0 es))
+          (a .rec-long) (a .room-long) (a .rec-ends ∙ ap (recordLeft ownHand s m) asks) (a .room-ends ∙ ap (roomLeft ownHand s m) asks) (r .store) (r .made) o;
     }
 
 -- what the block writer writes for a piece is that piece

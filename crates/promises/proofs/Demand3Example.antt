@@ -10,8 +10,9 @@ use Rattle.reassembly.specs.Sizes.{messageSize, mostRemembered}
 use Rattle.wire.specs.Series.{series}
 use Rattle.reassembly.specs.Memory.{Memory, remembers, remember, isDue, forget}
 use Rattle.reassembly.specs.Store.{Store, empty, newStore, idOf, numberOf, finalOf, pieceBytes, findId, findFree, slotOf, messageOr, plus, badLength, badNumber, repeats, clashes, tooMuch, complete, rebuiltOf, tooShort, slotsRefuse, answer, slotsStep, step, sweptOne, slotsSweep}
-use Rattle.promises.specs.Demand3.{Cut, Within, noCut, Event, deliver, sweepAt, begun, done, isOpen, marked, untouched, tallied, start, note, Schedule, Said, act, saidOf, said, storeAfter, Fulfilled}
-use Rattle.promises.proofs.Demand3.{demand3-for, demand3}
+use Rattle.reassembly.specs.Runs.{Said, saidOf}
+use Rattle.promises.specs.Demand3.{Cut, Within, noCut, Event, deliver, sweepAt, begun, done, isOpen, marked, untouched, tallied, start, note, Schedule, act, said, storeAfter, Fulfilled}
+use Rattle.promises.proofs.Demand3.{demand3-for}
 use Rattle.promises.proofs.Demand3Tests.{all-below, withinTest, within-of, allowedTest, ownTest, orderlyTest, scheduleTest, schedule-of}
 
 -- a number, and no message
@@ -26,7 +27,7 @@ brings kind expires bytes = record { number = 60; out = some (record { kind = ki
 abbrev pub remembering : Memory → Store
 remembering fs = record { slots = empty; remembered = fs }
 
--- ---- 16 slots, 64 remembered
+-- ---- 4 slots, 16 remembered
 
 -- Three messages, the third with the id of the first.
 abbrev pub threeCuts : List Cut
@@ -51,19 +52,19 @@ unfolding withinTest
 within-limits c h = within-of (getD threeCuts c noCut) (all-below 3 (λ c. withinTest (getD threeCuts c noCut)) refl c h)
 
 -- The rules are kept from a new store on, and once more on what was left, after a sweep that forgets it.
-pub keeps-rules : Schedule 16 mostRemembered threeCuts (start threeCuts []) mixture
+pub keeps-rules : Schedule 4 mostRemembered threeCuts (start threeCuts []) mixture
 unfolding scheduleTest allowedTest orderlyTest ownTest untouched tallied note marked begun done isOpen remembers remember isDue forget
-keeps-rules = schedule-of 16 mostRemembered threeCuts mixture (start threeCuts []) refl
+keeps-rules = schedule-of 4 mostRemembered threeCuts mixture (start threeCuts []) refl
 
-pub keeps-rules-again : Schedule 16 mostRemembered threeCuts (start threeCuts leftBehind) (sweepAt 300 ∷ mixture)
+pub keeps-rules-again : Schedule 4 mostRemembered threeCuts (start threeCuts leftBehind) (sweepAt 300 ∷ mixture)
 unfolding scheduleTest allowedTest orderlyTest ownTest untouched tallied note marked begun done isOpen remembers remember isDue forget
-keeps-rules-again = schedule-of 16 mostRemembered threeCuts (sweepAt 300 ∷ mixture) (start threeCuts leftBehind) refl
+keeps-rules-again = schedule-of 4 mostRemembered threeCuts (sweepAt 300 ∷ mixture) (start threeCuts leftBehind) refl
 
-pub example : Fulfilled 16 mostRemembered messageSize threeCuts newStore mixture
-example = demand3 messageSize (omega arith) threeCuts within-limits newStore refl mixture keeps-rules
+pub example : Fulfilled 4 mostRemembered messageSize threeCuts newStore mixture
+example = demand3-for 4 mostRemembered messageSize (omega arith) threeCuts within-limits newStore refl mixture keeps-rules
 
-pub example-again : Fulfilled 16 mostRemembered messageSize threeCuts (remembering leftBehind) (sweepAt 300 ∷ mixture)
-example-again = demand3 messageSize (omega arith) threeCuts within-limits (remembering leftBehind) refl (sweepAt 300 ∷ mixture) keeps-rules-again
+pub example-again : Fulfilled 4 mostRemembered messageSize threeCuts (remembering leftBehind) (sweepAt 300 ∷ mixture)
+example-again = demand3-for 4 mostRemembered messageSize (omega arith) threeCuts within-limits (remembering leftBehind) refl (sweepAt 300 ∷ mixture) keeps-rules-again
 
 -- and what the store says of it, and remembers, computed
 pub example-said :
@@ -74,7 +75,7 @@ pub example-said :
 unfolding act saidOf step remembers remember isDue forget slotsStep answer slotsRefuse slotOf findId findFree messageOr plus badLength badNumber repeats clashes tooMuch complete rebuiltOf tooShort idOf numberOf finalOf pieceBytes slotsSweep sweptOne same
 example-said = (refl, refl)
 
--- ---- 16 slots, 2 remembered
+-- ---- 4 slots, 2 remembered
 
 -- Five messages, of which 7 and 9 come twice.
 abbrev fiveCuts : List Cut
@@ -101,12 +102,12 @@ five-within : (c : ℕ) → c < length fiveCuts → Within (getD fiveCuts c noCu
 unfolding withinTest
 five-within c h = within-of (getD fiveCuts c noCut) (all-below 5 (λ c. withinTest (getD fiveCuts c noCut)) refl c h)
 
-five-keep-rules : Schedule 16 2 fiveCuts (start fiveCuts finishedBefore) pushingOut
+five-keep-rules : Schedule 4 2 fiveCuts (start fiveCuts finishedBefore) pushingOut
 unfolding scheduleTest allowedTest orderlyTest ownTest untouched tallied note marked begun done isOpen remembers remember isDue forget
-five-keep-rules = schedule-of 16 2 fiveCuts pushingOut (start fiveCuts finishedBefore) refl
+five-keep-rules = schedule-of 4 2 fiveCuts pushingOut (start fiveCuts finishedBefore) refl
 
-pub example-two : Fulfilled 16 2 messageSize fiveCuts (remembering finishedBefore) pushingOut
-example-two = demand3-for 16 2 messageSize (omega arith) fiveCuts five-within (remembering finishedBefore) refl pushingOut five-keep-rules
+pub example-two : Fulfilled 4 2 messageSize fiveCuts (remembering finishedBefore) pushingOut
+example-two = demand3-for 4 2 messageSize (omega arith) fiveCuts five-within (remembering finishedBefore) refl pushingOut five-keep-rules
 
 pub example-two-said :
     (said 2 messageSize fiveCuts (remembering finishedBefore) pushingOut
@@ -117,39 +118,39 @@ pub example-two-said :
 unfolding act saidOf step remembers remember isDue forget slotsStep answer slotsRefuse slotOf findId findFree messageOr plus badLength badNumber repeats clashes tooMuch complete rebuiltOf tooShort idOf numberOf finalOf pieceBytes slotsSweep sweptOne same
 example-two-said = (refl, refl)
 
--- ---- 16 slots, 64 remembered, 65 messages and two more
+-- ---- 4 slots, 16 remembered, 17 messages and two more
 
 -- a message of two pieces
 abbrev twoPieces : ℕ → Cut
 twoPieces id = record { id = id; kind = 1; expires = 9; pieces = (id ∷ []) ∷ (id ∷ []) ∷ [] }
 
--- ids from 0 to 64, then 0 and 5 once more
+-- ids from 0 to 16, then 0 and 5 once more
 abbrev pub manyCuts : List Cut
-manyCuts = series twoPieces 0 65 ++ (twoPieces 0 ∷ twoPieces 5 ∷ [])
+manyCuts = series twoPieces 0 17 ++ (twoPieces 0 ∷ twoPieces 5 ∷ [])
 
 -- n messages of the list come, from c on
 abbrev inTurn : ℕ → ℕ → List Event
 inTurn zero c = []
 inTurn (suc n) c = deliver c 0 0 ∷ deliver c 1 0 ∷ inTurn n (suc c)
 
--- The 65th pushes out 0, and no other: a piece of 1 is a late repeat still, and 0 may be used anew. The sweep forgets all of them, so that 5 may be, too.
-abbrev pub sixtyFive : List Event
-sixtyFive =
-    inTurn 65 0
-    ++ (deliver 1 0 0 ∷ deliver 65 0 0 ∷ deliver 65 1 0 ∷ deliver 5 1 29 ∷ sweepAt 30 ∷ deliver 66 0 30 ∷ deliver 66 1 30 ∷ deliver 5 1 31 ∷ [])
+-- The 17th pushes out 0, and no other: a piece of 1 is a late repeat still, and 0 may be used anew. The sweep forgets all of them, so that 5 may be, too.
+abbrev pub seventeen : List Event
+seventeen =
+    inTurn 17 0
+    ++ (deliver 1 0 0 ∷ deliver 17 0 0 ∷ deliver 17 1 0 ∷ deliver 5 1 29 ∷ sweepAt 30 ∷ deliver 18 0 30 ∷ deliver 18 1 30 ∷ deliver 5 1 31 ∷ [])
 
 pub many-within : (c : ℕ) → c < length manyCuts → Within (getD manyCuts c noCut)
 unfolding withinTest
-many-within c h = within-of (getD manyCuts c noCut) (all-below 67 (λ c. withinTest (getD manyCuts c noCut)) refl c h)
+many-within c h = within-of (getD manyCuts c noCut) (all-below 19 (λ c. withinTest (getD manyCuts c noCut)) refl c h)
 
-pub many-keep-rules : Schedule 16 mostRemembered manyCuts (start manyCuts []) sixtyFive
+pub many-keep-rules : Schedule 4 mostRemembered manyCuts (start manyCuts []) seventeen
 unfolding scheduleTest allowedTest orderlyTest ownTest untouched tallied note marked begun done isOpen remembers remember isDue forget
-many-keep-rules = schedule-of 16 mostRemembered manyCuts sixtyFive (start manyCuts []) refl
+many-keep-rules = schedule-of 4 mostRemembered manyCuts seventeen (start manyCuts []) refl
 
-pub example-many : Fulfilled 16 mostRemembered messageSize manyCuts newStore sixtyFive
-example-many = demand3 messageSize (omega arith) manyCuts many-within newStore refl sixtyFive many-keep-rules
+pub example-many : Fulfilled 4 mostRemembered messageSize manyCuts newStore seventeen
+example-many = demand3-for 4 mostRemembered messageSize (omega arith) manyCuts many-within newStore refl seventeen many-keep-rules
 
-pub example-many-said : drop 130 (said mostRemembered messageSize manyCuts newStore sixtyFive) ≡ says 57 ∷ says 0 ∷ brings 1 9 (0 ∷ 0 ∷ []) ∷ says 57 ∷ says 0 ∷ says 0 ∷ brings 1 9 (5 ∷ 5 ∷ []) ∷ says 57 ∷ []
+pub example-many-said : drop 34 (said mostRemembered messageSize manyCuts newStore seventeen) ≡ says 57 ∷ says 0 ∷ brings 1 9 (0 ∷ 0 ∷ []) ∷ says 57 ∷ says 0 ∷ says 0 ∷ brings 1 9 (5 ∷ 5 ∷ []) ∷ says 57 ∷ []
 unfolding act saidOf step remembers remember isDue forget slotsStep answer slotsRefuse slotOf findId findFree messageOr plus badLength badNumber repeats clashes tooMuch complete rebuiltOf tooShort idOf numberOf finalOf pieceBytes slotsSweep sweptOne same
 example-many-said = refl
 

@@ -13,7 +13,8 @@ use Rattle.reassembly.specs.Sizes.{messageSize}
 use Rattle.reassembly.specs.Store.{Message, Slots, SlotsAnswer, findFree, slotOf, messageOr, plus, answer, slotsStep, slotsSweep}
 use Rattle.reassembly.proofs.Searches.{free-none}
 use Rattle.reassembly.proofs.Stores.{none≢some, Hit, place-open, place-new, free-inside, message-open, step-is, sweep-same}
-use Rattle.promises.specs.Demand3.{Cut, Within, pieceOf, cutFrom, noCut, deliver, Tally, noTally, anyMark, allMarks, begun, done, isOpen, marked, tallied, count, Orderly, Said, dueOne}
+use Rattle.reassembly.specs.Runs.{Said}
+use Rattle.promises.specs.Demand3.{Cut, Within, pieceOf, cutFrom, noCut, deliver, Tally, noTally, anyMark, allMarks, begun, done, isOpen, marked, tallied, count, Orderly, dueOne}
 use Rattle.promises.proofs.Demand3Marks.{none-at, not-all-at, any-set, any-at, set-mark, count-set, count-less}
 use Rattle.promises.proofs.Demand3Rebuilt.{Holds, holds-new, holds-plus, id-piece}
 use Rattle.promises.proofs.Demand3Slots.{isFull, not-full, answer-repeat, answer-kept, answer-finished}

@@ -19,10 +19,16 @@ pub mod Demand3Rebuilt
 pub mod Demand3Slots
 pub mod Demand3Invariant
 pub mod Demand3
+pub mod FairSlots
+pub mod Demand3Neighbours
+pub mod StoreTurns
+pub mod FairSlotsCalls
 pub mod NoGhost
 pub mod Demand3Calls
+pub mod HandTurns
 pub mod Demand3Deliveries
 pub mod Demand3Tests
 pub mod Demand3Example
+pub mod Demand3NeighboursExample
 pub mod Demand3CallsExample
 pub mod Demand3DeliveriesExample

@@ -36,7 +36,8 @@ use Rattle.acks.specs.Expanding.{expandOf, listAfter}
 use Rattle.sender.specs.Sender.{Call, refusalsOf}
 use Rattle.sender.specs.Recorded.{answerThere, givenThere, senderAfter, settledThere}
 use Rattle.reassembly.specs.declared.Label.{Label}
-use Rattle.reassembly.specs.Calls.{Lent, After, after, firstCall, followOnCall, renewal, renewed}
+use Rattle.reassembly.specs.Calls.{Lent, After, after}
+use Rattle.reassembly.specs.Shares.{firstCall, followOnCall, renewal, renewed}
 use Rattle.messages.specs.Delivery.{deliveryWith, nothing, delivered}
 
 -- An answer that is a number refuses where it is not 0;
@@ -122,24 +123,24 @@ StoreNewRefused = (rec : List ℕ) → Refuses (renewal rec) → (renewal rec �
 abbrev pub StoreStays : List ℕ → Lent → After → Type 0
 StoreStays numbers x y = OneOf numbers (y .reply .number) × (y ≡ after (y .reply) x)
 
--- a first piece: 50, 52 to 57, 59
+-- a first piece of a neighbour, of any number: 50, 52 to 59
 abbrev pub FirstRefused : Type 0
 FirstRefused =
-    (x : Lent) (l : Label) (second : ℕ) (v : List ℕ) → StoreRefuses (firstCall x l second v .reply .number)
-    → StoreStays (50 ∷ 52 ∷ 53 ∷ 54 ∷ 55 ∷ 56 ∷ 57 ∷ 59 ∷ []) x (firstCall x l second v)
+    (x : Lent) (n : ℕ) (l : Label) (second : ℕ) (v : List ℕ) → StoreRefuses (firstCall x n l second v .reply .number)
+    → StoreStays (50 ∷ 52 ∷ 53 ∷ 54 ∷ 55 ∷ 56 ∷ 57 ∷ 58 ∷ 59 ∷ []) x (firstCall x n l second v)
 
 -- a follow-on piece: these and 51
 abbrev pub FollowOnRefused : Type 0
 FollowOnRefused =
-    (x : Lent) (l : Label) (second : ℕ) (v : List ℕ) → StoreRefuses (followOnCall x l second v .reply .number)
-    → StoreStays (50 ∷ 51 ∷ 52 ∷ 53 ∷ 54 ∷ 55 ∷ 56 ∷ 57 ∷ 59 ∷ []) x (followOnCall x l second v)
+    (x : Lent) (n : ℕ) (l : Label) (second : ℕ) (v : List ℕ) → StoreRefuses (followOnCall x n l second v .reply .number)
+    → StoreStays (50 ∷ 51 ∷ 52 ∷ 53 ∷ 54 ∷ 55 ∷ 56 ∷ 57 ∷ 58 ∷ 59 ∷ []) x (followOnCall x n l second v)
 
--- delivering the block at a place: the block's refusals or its piece's, all with the block's place, and record, room and assembly buffer stay
+-- delivering the block at a place of a neighbour's payload: the block's refusals or its piece's, all with the block's place, and record, room and assembly buffer stay
 abbrev pub DeliverRefused : Type 0
 DeliverRefused =
-    (s : List ℕ) (at : ℕ) (x : Lent) (second : ℕ) → StoreRefuses (delivered s at x second (readAt s at) .received .number)
-    → OneOf (1 ∷ 2 ∷ 3 ∷ 4 ∷ 5 ∷ 6 ∷ 7 ∷ 8 ∷ 9 ∷ 50 ∷ 51 ∷ 52 ∷ 53 ∷ 54 ∷ 55 ∷ 56 ∷ 57 ∷ 59 ∷ []) (delivered s at x second (readAt s at) .received .number)
-    × (delivered s at x second (readAt s at) ≡ deliveryWith (nothing (delivered s at x second (readAt s at) .received .number) at) x)
+    (s : List ℕ) (at : ℕ) (x : Lent) (n second : ℕ) → StoreRefuses (delivered s at x n second (readAt s at) .received .number)
+    → OneOf (1 ∷ 2 ∷ 3 ∷ 4 ∷ 5 ∷ 6 ∷ 7 ∷ 8 ∷ 9 ∷ 50 ∷ 51 ∷ 52 ∷ 53 ∷ 54 ∷ 55 ∷ 56 ∷ 57 ∷ 58 ∷ 59 ∷ []) (delivered s at x n second (readAt s at) .received .number)
+    × (delivered s at x n second (readAt s at) ≡ deliveryWith (nothing (delivered s at x n second (readAt s at) .received .number) at) x)
 
 -- Demand 1: a part for each kind of call
 pub record Demand1 : Type 0 where

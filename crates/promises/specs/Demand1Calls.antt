@@ -49,8 +49,8 @@ pub record Demand1Calls : Type 0 where
   pub packet-row : (rec : List ℕ) (k : ℕ) (out : List ℕ) → Refuses (lentAnswer rec) → (lentAnswer rec ≡ 59) × (packetNumbers rec k out ≡ out)
   -- strawhub_block_deliver: the number is that of what was received, the value the block's place, whether the block or the store refused; its six numbers and all else that was lent stay
   pub told :
-      (s : List ℕ) (at : ℕ) (x : Lent) (second : ℕ) (told : List ℕ) → StoreRefuses (deliverCall s at x second told .outcome .number)
-      → (deliverCall s at x second told .outcome .number ≡ deliveredAt s at x second .received .number)
-      × (deliverCall s at x second told .outcome .value ≡ at)
-      × (deliverCall s at x second told .told ≡ told)
-      × (deliverCall s at x second told .left ≡ x)
+      (s : List ℕ) (at : ℕ) (x : Lent) (n second : ℕ) (told : List ℕ) → StoreRefuses (deliverCall s at x n second told .outcome .number)
+      → (deliverCall s at x n second told .outcome .number ≡ deliveredAt s at x n second .received .number)
+      × (deliverCall s at x n second told .outcome .value ≡ at)
+      × (deliverCall s at x n second told .told ≡ told)
+      × (deliverCall s at x n second told .left ≡ x)

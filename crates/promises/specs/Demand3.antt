@@ -1,14 +1,16 @@
--- Demand 3, as request P5 words it: messages that are cut and delivered in any mixture come out whole, each once, and leave none open.
+-- Demand 3, as request P5 words it, of one neighbour's store: messages that are cut and delivered in any mixture come out whole, each once, and leave none open.
+-- specs/Demand3Neighbours.antt has it of the store of four, as request P12 words it.
 use mathlib.Core.Path.{_≡_}
 use mathlib.Core.Bool.{Bool, true, false, cond, not, _&&_, _||_}
 use mathlib.Core.List.{List, [], _∷_, map}
-use mathlib.Core.Option.{Option, none, some}
+use mathlib.Core.Option.{none, some}
 use Prim.Native.Nat.{ℕ, zero, suc, _+_, _≤_, _<_}
 use lib.ListN.{length, getD, set, replicate}
 use lib.Dec.{eqb}
-use Rattle.reassembly.specs.Sizes.{messageSize, mostRemembered}
+use Rattle.reassembly.specs.Sizes.{messageSize}
 use Rattle.reassembly.specs.Memory.{Memory, remembers, remember, forget}
 use Rattle.reassembly.specs.Store.{Piece, first, follow, Store, Rebuilt, Answer, total, joined, step, sweep}
+use Rattle.reassembly.specs.Runs.{Said, saidOf}
 
 -- A message that was cut: its id, its head, and its pieces in order. The bytes it was cut from are `joined pieces`.
 pub record Cut : Type 0 where
@@ -133,11 +135,6 @@ abbrev pub Schedule : ℕ → ℕ → List Cut → Past → List Event → Type 
 Schedule slots keep cs h [] = (c : ℕ) → c < length cs → done (getD (h .tallies) c noTally) ≡ true
 Schedule slots keep cs h (e ∷ es) = Allowed cs h e × Orderly slots cs (note keep cs h e .tallies) × Schedule slots keep cs (note keep cs h e) es
 
--- What is said at an event: a number, and perhaps a message.
-pub record Said : Type 0 where
-  pub number : ℕ
-  pub out : Option Rebuilt
-
 -- What the demand says of an event: a finished message's piece is 57, another repeat 54; the last missing piece brings its message out; any other is kept.
 unfoldable pub dueOne : List Cut → List Tally → Event → Said
 dueOne cs ts (deliver c i second) =
@@ -159,10 +156,6 @@ due keep cs h (e ∷ es) = dueOne cs (h .tallies) e ∷ due keep cs (note keep c
 unfoldable pub act : ℕ → ℕ → List Cut → Store → Event → Answer
 act keep cap cs s (deliver c i second) = step keep cap s (pieceOf (getD cs c noCut) i) second
 act keep cap cs s (sweepAt second) = record { number = 0; out = none; store = sweep second s }
-
--- an answer without the store
-unfoldable pub saidOf : Answer → Said
-saidOf a = record { number = a .number; out = a .out }
 
 -- what the store says, event after event
 abbrev pub said : ℕ → ℕ → List Cut → Store → List Event → List Said
@@ -200,7 +193,3 @@ Demand3For slots keep =
     → (s : Store) → s .slots ≡ replicate slots none
     → (es : List Event) → Schedule slots keep cs (start cs (s .remembered)) es
     → Fulfilled slots keep cap cs s es
-
--- Demand 3
-abbrev pub Demand3 : Type 0
-Demand3 = Demand3For 16 mostRemembered

@@ -1,46 +1,41 @@
--- Demand 3 of the calls: the schedules of specs/Demand3.antt, delivered to first_fragment, follow_on_fragment and sweep on lent bytes.
--- `firstCall`, `followOnCall`, `swept` and `renewed` are what the contracts of these calls, and of new, say of every record, room and buffer.
+-- Demand 3 of the calls, as request P12 words it: of each neighbour by itself, whatever the others send. The schedules of specs/Demand3.antt, delivered to
+-- strawhub_store_first, strawhub_store_follow_on and strawhub_store_sweep on lent bytes, among any turns of the others.
 use mathlib.Core.Path.{_≡_}
-use mathlib.Core.List.{List, [], _∷_, map}
+use mathlib.Core.List.{List, [], _∷_}
 use Prim.Native.Nat.{ℕ, suc, _≤_, _<_}
 use lib.ListN.{length, getD, replicate}
 use Rattle.reassembly.specs.Sizes.{messageSize, roomSize, mostRemembered, recordSize}
-use Rattle.reassembly.specs.declared.Reply.{Reply}
-use Rattle.reassembly.specs.Store.{Piece, first, follow, empty, newStore}
+use Rattle.reassembly.specs.Store.{empty}
+use Rattle.reassembly.specs.Runs.{Said}
+use Rattle.reassembly.specs.Neighbours.{newNeighbours}
 use Rattle.reassembly.specs.Remembered.{memoryOf}
-use Rattle.reassembly.specs.Calls.{Lent, lent, After, after, bare, firstCall, followOnCall, swept, renewed}
-use Rattle.reassembly.specs.Stands.{slotsOf, stands, Made, labelOf, replyFor, laidOut}
-use Rattle.promises.specs.Demand3.{Cut, Within, pieceOf, noCut, Event, deliver, sweepAt, Past, start, pastAfter, Schedule, Said, due, times}
+use Rattle.reassembly.specs.Calls.{bare}
+use Rattle.reassembly.specs.Shares.{shareOf, shareOfRoom, renewed}
+use Rattle.reassembly.specs.Stands.{slotsOf, replyFor, laidOut}
+use Rattle.reassembly.specs.Standing.{summaryAt, neighboursOf, AllMade}
+use Rattle.promises.specs.Demand3.{Cut, Within, pieceOf, noCut, Event, deliver, sweepAt, Past, start, pastAfter, Schedule, due, times}
+use Rattle.promises.specs.StoreTurns.{Turn, sends, sweeps, Heard, own, heard, lastRec, lastRoom, OwnMade}
 
--- a piece arrives: the call for it, and what it leaves
-unfoldable pub pieceCall : Lent → Piece → ℕ → After
-pieceCall x (first id kind expires bytes) second = firstCall x (labelOf (first id kind expires bytes)) second bytes
-pieceCall x (follow id number final bytes) second = followOnCall x (labelOf (follow id number final bytes)) second bytes
+-- an event of neighbour n's schedule as a turn, with an assembly buffer
+abbrev pub askedOne : ℕ → List Cut → List ℕ → Event → Turn
+askedOne n cs out (deliver c i second) = sends n out (pieceOf (getD cs c noCut) i) second
+askedOne n cs out (sweepAt second) = sweeps second
 
--- an event, on lent bytes
-unfoldable pub called : List Cut → Lent → Event → After
-called cs x (deliver c i second) = pieceCall x (pieceOf (getD cs c noCut) i) second
-called cs x (sweepAt second) = after (bare 0) (lent (swept second (x .rec)) (x .room) (x .out))
+-- its schedule as turns; the k-th is lent the assembly buffer outs k, whatever it holds
+abbrev pub asked : ℕ → List Cut → (ℕ → List ℕ) → ℕ → List Event → List Turn
+asked n cs outs k [] = []
+asked n cs outs k (e ∷ es) = askedOne n cs (outs k) e ∷ asked n cs outs (suc k) es
 
--- what the calls leave, one after the other; the n-th is lent the assembly buffer outs n, whatever it holds
-abbrev pub afterEach : List Cut → (ℕ → List ℕ) → ℕ → List ℕ → List ℕ → List Event → List After
-afterEach cs outs n rec room [] = []
-afterEach cs outs n rec room (e ∷ es) =
-    called cs (lent rec room (outs n)) e ∷ afterEach cs outs (suc n) (called cs (lent rec room (outs n)) e .left .rec) (called cs (lent rec room (outs n)) e .left .room) es
+-- what is due of an event: the reply, and the assembly buffer with the message that comes out; a sweep answers 0, and is lent no buffer
+unfoldable pub heardDue : List ℕ → Event → Said → Heard
+heardDue out (deliver c i second) d = record { reply = replyFor (d .number) (d .out); out = laidOut out (d .out) }
+heardDue out (sweepAt second) d = record { reply = bare 0; out = [] }
 
--- the record and the room after the last of them
-abbrev pub afterLast : List Cut → (ℕ → List ℕ) → ℕ → List ℕ → List ℕ → List Event → Lent
-afterLast cs outs n rec room [] = lent rec room []
-afterLast cs outs n rec room (e ∷ es) = afterLast cs outs (suc n) (called cs (lent rec room (outs n)) e .left .rec) (called cs (lent rec room (outs n)) e .left .room) es
-
--- the reply that is due
-unfoldable pub replyDue : Said → Reply
-replyDue d = replyFor (d .number) (d .out)
-
--- the assembly buffers that are due
-abbrev pub buffersDue : (ℕ → List ℕ) → ℕ → List Said → List (List ℕ)
-buffersDue outs n [] = []
-buffersDue outs n (d ∷ ds) = laidOut (outs n) (d .out) ∷ buffersDue outs (suc n) ds
+-- all that is due of a schedule
+abbrev pub allHeardDue : (ℕ → List ℕ) → ℕ → List Event → List Said → List Heard
+allHeardDue outs k [] ds = []
+allHeardDue outs k (e ∷ es) [] = []
+allHeardDue outs k (e ∷ es) (d ∷ ds) = heardDue (outs k) e d ∷ allHeardDue outs (suc k) es ds
 
 -- the second of an event
 abbrev pub secondOf : Event → ℕ
@@ -53,60 +48,77 @@ pub record ScheduleInWidth (cs : List Cut) (es : List Event) : Type 0 where
   pub expirations : (c : ℕ) → getD cs c noCut .expires < 4294967296
   pub seconds : (n : ℕ) → secondOf (getD es n (sweepAt 0)) < 18446744073709551616
 
--- a schedule begins with what the record remembers
-abbrev pub startAt : List Cut → List ℕ → Past
-startAt cs rec = start cs (memoryOf rec)
+-- neighbour n's schedule begins with what its share remembers
+abbrev pub startAt : ℕ → List Cut → List ℕ → Past
+startAt n cs rec = start cs (memoryOf (shareOf rec n))
 
 -- what is due of its events
-abbrev pub dueAt : List Cut → List ℕ → List Event → List Said
-dueAt cs rec es = due mostRemembered cs (startAt cs rec) es
+abbrev pub dueAt : ℕ → List Cut → List ℕ → List Event → List Said
+dueAt n cs rec es = due mostRemembered cs (startAt n cs rec) es
 
--- the rules that it keeps
-abbrev pub ScheduleAt : List Cut → List ℕ → List Event → Type 0
-ScheduleAt cs rec es = Schedule 16 mostRemembered cs (startAt cs rec) es
+-- the rules that it keeps, with 4 slots and 16 remembered messages
+abbrev pub ScheduleAt : ℕ → List Cut → List ℕ → List Event → Type 0
+ScheduleAt n cs rec es = Schedule 4 mostRemembered cs (startAt n cs rec) es
 
--- Every call is answered as is due, leaves its assembly buffer as is due, every message came out once, the record and the room are again what calls made, no message
--- is open in them, and what the record remembers is what the schedule says.
-pub record FulfilledByCalls (cs : List Cut) (outs : ℕ → List ℕ) (rec room : List ℕ) (es : List Event) : Type 0 where
-  pub replies : map (λ x. x .reply) (afterEach cs outs 0 rec room es) ≡ map replyDue (dueAt cs rec es)
-  pub buffers : map (λ x. x .left .out) (afterEach cs outs 0 rec room es) ≡ buffersDue outs 0 (dueAt cs rec es)
-  pub once : (c : ℕ) → c < length cs → times c es (dueAt cs rec es) ≡ 1
-  pub ends-empty : slotsOf (afterLast cs outs 0 rec room es .rec) (afterLast cs outs 0 rec room es .room) ≡ empty
-  pub remembers-due : memoryOf (afterLast cs outs 0 rec room es .rec) ≡ pastAfter mostRemembered cs (startAt cs rec) es .remembered
-  pub made : Made (afterLast cs outs 0 rec room es .rec) (afterLast cs outs 0 rec room es .room)
+-- Neighbour n may begin: its share is one that calls made, and has no message open, whatever it remembers and whatever the other shares hold.
+pub record Begins (n : ℕ) (rec room : List ℕ) : Type 0 where
+  pub own-made : OwnMade n rec room
+  pub none-open : slotsOf (shareOf rec n) (shareOfRoom room n) ≡ empty
+
+-- What a schedule of neighbour n leaves in record and room, rec′ and room′: another may begin, so that again no message is open; the summary says so too; and what is
+-- remembered is what the schedule says. Every message came out once.
+pub record Ends (n : ℕ) (cs : List Cut) (rec : List ℕ) (es : List Event) (rec′ room′ : List ℕ) : Type 0 where
+  pub once : (c : ℕ) → c < length cs → times c es (dueAt n cs rec es) ≡ 1
+  pub begins-again : Begins n rec′ room′
+  pub summary-zero : summaryAt rec′ n ≡ 0
+  pub remembers-due : memoryOf (shareOf rec′ n) ≡ pastAfter mostRemembered cs (startAt n cs rec) es .remembered
+
+-- The outcome, where all take these turns: neighbour n hears what is due.
+pub record FulfilledByCalls (n : ℕ) (cs : List Cut) (outs : ℕ → List ℕ) (rec room : List ℕ) (turns : List Turn) (es : List Event) : Type 0 where
+  pub hears : heard n rec room turns ≡ allHeardDue outs 0 es (dueAt n cs rec es)
+  pub ends : Ends n cs rec es (lastRec rec room turns) (lastRoom rec room turns)
 
 -- each call is lent an assembly buffer of 65,535 bytes or more
 abbrev pub LongEnough : (ℕ → List ℕ) → Type 0
 LongEnough outs = (n : ℕ) → messageSize ≤ length (outs n)
 
--- Demand 3, of the calls: on every record and room that calls made and in which no message is open, whatever is remembered
+-- Demand 3, of the calls: where neighbour n's own turns are a schedule that keeps the rules. The others may keep them or not.
 abbrev pub Demand3Calls : Type 0
 Demand3Calls =
-    (outs : ℕ → List ℕ) → LongEnough outs
-    → (rec room : List ℕ) → Made rec room → slotsOf rec room ≡ empty
+    (n : ℕ) → n < 4
+    → (outs : ℕ → List ℕ) → LongEnough outs
+    → (rec room : List ℕ) → Begins n rec room
     → (cs : List Cut) → ((c : ℕ) → c < length cs → Within (getD cs c noCut))
-    → (es : List Event) → ScheduleInWidth cs es → ScheduleAt cs rec es
-    → FulfilledByCalls cs outs rec room es
+    → (es : List Event) → ScheduleInWidth cs es → ScheduleAt n cs rec es
+    → (turns : List Turn) → own n turns ≡ asked n cs outs 0 es
+    → FulfilledByCalls n cs outs rec room turns es
 
--- Records and rooms that meet its premises: a new record, and one of zeros, with any room of the lent length;
+-- Records and rooms that meet its premises, for every neighbour: a new record, and one of zeros, with any room of the lent length;
 pub record StoreStarts : Type 0 where
-  pub new : (rec room : List ℕ) → recordSize ≤ length rec → roomSize ≤ length room → Made (renewed rec) room × (stands (renewed rec) room ≡ newStore)
-  pub zero-filled : (n : ℕ) (room : List ℕ) → recordSize ≤ n → roomSize ≤ length room → Made (replicate n 0) room × (stands (replicate n 0) room ≡ newStore)
+  pub new : (rec room : List ℕ) → recordSize ≤ length rec → roomSize ≤ length room → AllMade (renewed rec) room × (neighboursOf (renewed rec) room ≡ newNeighbours)
+  pub zero-filled : (n : ℕ) (room : List ℕ) → recordSize ≤ n → roomSize ≤ length room → AllMade (replicate n 0) room × (neighboursOf (replicate n 0) room ≡ newNeighbours)
+  pub begins :
+      (rec room : List ℕ) → AllMade rec room → neighboursOf rec room ≡ newNeighbours
+      → (n : ℕ) → n < 4 → Begins n rec room × (memoryOf (shareOf rec n) ≡ [])
 
 -- and what a schedule left: another may follow, with messages and assembly buffers of its own, that begins with what is remembered then.
 abbrev pub Demand3Again : Type 0
 Demand3Again =
-    (outs outs′ : ℕ → List ℕ) → LongEnough outs′
-    → (rec room : List ℕ) (cs : List Cut) (es : List Event) → FulfilledByCalls cs outs rec room es
+    (n : ℕ) → n < 4
+    → (outs outs′ : ℕ → List ℕ) → LongEnough outs′
+    → (rec room : List ℕ) (cs : List Cut) (es : List Event) (turns : List Turn) → FulfilledByCalls n cs outs rec room turns es
     → (ds : List Cut) → ((c : ℕ) → c < length ds → Within (getD ds c noCut))
-    → (fs : List Event) → ScheduleInWidth ds fs → ScheduleAt ds (afterLast cs outs 0 rec room es .rec) fs
-    → FulfilledByCalls ds outs′ (afterLast cs outs 0 rec room es .rec) (afterLast cs outs 0 rec room es .room) fs
+    → (fs : List Event) → ScheduleInWidth ds fs → ScheduleAt n ds (lastRec rec room turns) fs
+    → (turns′ : List Turn) → own n turns′ ≡ asked n ds outs′ 0 fs
+    → FulfilledByCalls n ds outs′ (lastRec rec room turns) (lastRoom rec room turns) turns′ fs
 
 -- Demand 3 of the calls that follow strawhub_store_new, whatever the record held
 abbrev pub Demand3New : Type 0
 Demand3New =
-    (outs : ℕ → List ℕ) → LongEnough outs
+    (n : ℕ) → n < 4
+    → (outs : ℕ → List ℕ) → LongEnough outs
     → (rec room : List ℕ) → recordSize ≤ length rec → roomSize ≤ length room
     → (cs : List Cut) → ((c : ℕ) → c < length cs → Within (getD cs c noCut))
-    → (es : List Event) → ScheduleInWidth cs es → Schedule 16 mostRemembered cs (start cs []) es
-    → FulfilledByCalls cs outs (renewed rec) room es
+    → (es : List Event) → ScheduleInWidth cs es → Schedule 4 mostRemembered cs (start cs []) es
+    → (turns : List Turn) → own n turns ≡ asked n cs outs 0 es
+    → FulfilledByCalls n cs outs (renewed rec) room turns es

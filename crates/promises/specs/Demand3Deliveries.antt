@@ -1,4 +1,5 @@
--- Demand 3 of the payloads' blocks: the schedules of specs/Demand3.antt, each piece a block of a payload that is handed to strawhub_block_deliver, each sweep a strawhub_store_sweep.
+-- Demand 3 of the payloads' blocks, of each neighbour by itself: the schedules of specs/Demand3.antt, each piece a block of a payload that is handed to
+-- strawhub_block_deliver, each sweep a strawhub_store_sweep, among any payloads of the others.
 -- `deliverCall` and `swept` are what the contracts of these calls say of every payload, place, record, room, buffer and six numbers.
 use mathlib.Core.Path.{_≡_}
 use mathlib.Core.Bool.{Bool, true, cond, _||_}
@@ -15,16 +16,17 @@ use Rattle.blocks.specs.declared.Read.the-variants as Got
 use Rattle.blocks.specs.Extent.{isI2npType}
 use Rattle.blocks.specs.Reading.{bytesAt, readAt}
 use Rattle.blocks.specs.Writing.{roomAfter}
-use Rattle.reassembly.specs.Sizes.{mostRemembered}
-use Rattle.reassembly.specs.Store.{Piece, first, follow, pieceBytes, Rebuilt, empty}
-use Rattle.reassembly.specs.Remembered.{memoryOf}
-use Rattle.reassembly.specs.Calls.{Lent, lent, swept}
-use Rattle.reassembly.specs.Stands.{slotsOf, Made, laidOut}
+use Rattle.reassembly.specs.Store.{Piece, first, follow, pieceBytes, Rebuilt}
+use Rattle.reassembly.specs.Runs.{Said}
+use Rattle.reassembly.specs.Calls.{lent}
+use Rattle.reassembly.specs.Shares.{swept}
+use Rattle.reassembly.specs.Turns.{Turned, turned, saidEach, recordLeft, roomLeft, saidThose, those}
+use Rattle.reassembly.specs.Stands.{laidOut}
 use Rattle.numbers_outcomes.specs.declared.Outcome.{Outcome}
 use Rattle.numbers_outcomes.specs.Outcomes.{outcome}
-use Rattle.numbers_outcomes.specs.Deliveries.{Told, toldWith, deliverCall}
-use Rattle.promises.specs.Demand3.{Cut, Within, pieceOf, noCut, Event, deliver, sweepAt, pastAfter, Said, times}
-use Rattle.promises.specs.Demand3Calls.{ScheduleInWidth, startAt, dueAt, ScheduleAt, LongEnough}
+use Rattle.numbers_outcomes.specs.Deliveries.{Told, deliverCall}
+use Rattle.promises.specs.Demand3.{Cut, Within, pieceOf, noCut, Event, deliver, sweepAt}
+use Rattle.promises.specs.Demand3Calls.{ScheduleInWidth, dueAt, ScheduleAt, Begins, Ends, LongEnough}
 
 -- a payload has a block at a place, whose part of the payload has these bytes
 pub record HasBlock (s : List ℕ) (at : ℕ) (block : Part → Block) (bytes : List ℕ) : Type 0 where
@@ -46,15 +48,10 @@ pub record Loan : Type 0 where
   pub out : List ℕ
   pub told : List ℕ
 
--- the block that a call is handed is the event's piece; a sweep is handed none
-abbrev pub HandedOne : List Cut → Loan → Event → Type 0
-HandedOne cs l (deliver c i second) = HasPiece (l .payload) (l .at) (pieceOf (getD cs c noCut) i)
-HandedOne cs l (sweepAt second) = Unit
-
--- the n-th call is lent loans n
-abbrev pub Handed : List Cut → (ℕ → Loan) → ℕ → List Event → Type 0
-Handed cs loans n [] = Unit
-Handed cs loans n (e ∷ es) = HandedOne cs (loans n) e × Handed cs loans (suc n) es
+-- A neighbour, of any number, hands in the block at a place of a payload at a second; or a sweep, which is lent nothing of the kind.
+pub data Handing : Type 0 where
+  hands : (n : ℕ) (l : Loan) (second : ℕ) → Handing
+  sweeps : (second : ℕ) → Handing
 
 -- What a call tells: its number and value, the assembly buffer and the six numbers afterwards.
 pub record Tells : Type 0 where
@@ -62,25 +59,59 @@ pub record Tells : Type 0 where
   pub out : List ℕ
   pub told : List ℕ
 
--- that, of what the call leaves
-abbrev pub tellsOf : Told → Tells
-tellsOf t = record { outcome = t .outcome; out = t .left .out; told = t .told }
+-- that, of what the call leaves, as a turn
+abbrev pub tellsOf : Told → Turned Tells
+tellsOf t = turned (record { outcome = t .outcome; out = t .left .out; told = t .told }) (t .left .rec) (t .left .room)
 
--- an event, on lent bytes
-unfoldable pub handed : Loan → List ℕ → List ℕ → Event → Told
-handed l rec room (deliver c i second) = deliverCall (l .payload) (l .at) (lent rec room (l .out)) second (l .told)
-handed l rec room (sweepAt second) = toldWith (outcome 0 0) (l .told) (lent (swept second rec) room (l .out))
+-- a sweep answers 0
+abbrev pub sweepTells : Tells
+sweepTells = record { outcome = outcome 0 0; out = []; told = [] }
 
--- what the calls tell, one after the other
-abbrev pub tellings : (ℕ → Loan) → ℕ → List ℕ → List ℕ → List Event → List Tells
-tellings loans n rec room [] = []
-tellings loans n rec room (e ∷ es) =
-    tellsOf (handed (loans n) rec room e) ∷ tellings loans (suc n) (handed (loans n) rec room e .left .rec) (handed (loans n) rec room e .left .room) es
+-- a handing, on a record and a room
+unfoldable pub handCall : List ℕ → List ℕ → Handing → Turned Tells
+handCall rec room (hands n l second) = tellsOf (deliverCall (l .payload) (l .at) (lent rec room (l .out)) n second (l .told))
+handCall rec room (sweeps second) = turned sweepTells (swept second rec) room
 
--- the record and the room after the last of them
-abbrev pub handedLast : (ℕ → Loan) → ℕ → List ℕ → List ℕ → List Event → Lent
-handedLast loans n rec room [] = lent rec room []
-handedLast loans n rec room (e ∷ es) = handedLast loans (suc n) (handed (loans n) rec room e .left .rec) (handed (loans n) rec room e .left .room) es
+-- what neighbour n's share meets: what it hands in, and the sweeps
+abbrev pub meets : ℕ → Handing → Bool
+meets n (hands m l second) = eqb m n
+meets n (sweeps second) = true
+
+-- these, of what all hand in
+abbrev pub own : ℕ → List Handing → List Handing
+own n turns = those (meets n) turns
+
+-- what is told of these
+abbrev pub tellings : ℕ → List ℕ → List ℕ → List Handing → List Tells
+tellings n rec room turns = saidThose (meets n) turns (saidEach handCall rec room turns)
+
+-- the record after the last turn
+abbrev pub lastRec : List ℕ → List ℕ → List Handing → List ℕ
+lastRec rec room turns = recordLeft handCall rec room turns
+
+-- and the room
+abbrev pub lastRoom : List ℕ → List ℕ → List Handing → List ℕ
+lastRoom rec room turns = roomLeft handCall rec room turns
+
+-- an event of neighbour n's schedule as a turn
+abbrev pub handingOne : ℕ → Loan → Event → Handing
+handingOne n l (deliver c i second) = hands n l second
+handingOne n l (sweepAt second) = sweeps second
+
+-- its schedule as turns; the k-th is lent loans k
+abbrev pub handings : ℕ → (ℕ → Loan) → ℕ → List Event → List Handing
+handings n loans k [] = []
+handings n loans k (e ∷ es) = handingOne n (loans k) e ∷ handings n loans (suc k) es
+
+-- the block that a call is handed is the event's piece; a sweep is handed none
+abbrev pub HandedOne : List Cut → Loan → Event → Type 0
+HandedOne cs l (deliver c i second) = HasPiece (l .payload) (l .at) (pieceOf (getD cs c noCut) i)
+HandedOne cs l (sweepAt second) = Unit
+
+-- so all of a schedule
+abbrev pub Handed : List Cut → (ℕ → Loan) → ℕ → List Event → Type 0
+Handed cs loans k [] = Unit
+Handed cs loans k (e ∷ es) = HandedOne cs (loans k) e × Handed cs loans (suc k) es
 
 -- 54 and 57, the refusals that a schedule meets
 abbrev pub isRepeat : Said → Bool
@@ -99,34 +130,32 @@ toldOf id (some w) = 2 ∷ w .kind ∷ id ∷ w .expires ∷ 0 ∷ length (w .by
 unfoldable pub toldDue : ℕ → List ℕ → Said → List ℕ
 toldDue id told d = cond (isRepeat d) told (toldOf id (d .out))
 
--- all that is due of an event; a sweep answers 0, and is lent neither buffer nor numbers
+-- all that is due of an event
 unfoldable pub tellsDue : List Cut → Loan → Event → Said → Tells
 tellsDue cs l (deliver c i second) d = record { outcome = outcomeDue (l .at) d; out = laidOut (l .out) (d .out); told = toldDue (getD cs c noCut .id) (l .told) d }
-tellsDue cs l (sweepAt second) d = record { outcome = outcome 0 0; out = l .out; told = l .told }
+tellsDue cs l (sweepAt second) d = sweepTells
 
 -- all that is due of a schedule
 abbrev pub allDue : List Cut → (ℕ → Loan) → ℕ → List Event → List Said → List Tells
-allDue cs loans n [] ds = []
-allDue cs loans n (e ∷ es) [] = []
-allDue cs loans n (e ∷ es) (d ∷ ds) = tellsDue cs (loans n) e d ∷ allDue cs loans (suc n) es ds
+allDue cs loans k [] ds = []
+allDue cs loans k (e ∷ es) [] = []
+allDue cs loans k (e ∷ es) (d ∷ ds) = tellsDue cs (loans k) e d ∷ allDue cs loans (suc k) es ds
 
--- Every call tells what is due, every message came out once, the record and the room are again what calls made, no message is open in them, and what the record
--- remembers is what the schedule says.
-pub record FulfilledByDeliveries (cs : List Cut) (loans : ℕ → Loan) (rec room : List ℕ) (es : List Event) : Type 0 where
-  pub tells : tellings loans 0 rec room es ≡ allDue cs loans 0 es (dueAt cs rec es)
-  pub once : (c : ℕ) → c < length cs → times c es (dueAt cs rec es) ≡ 1
-  pub ends-empty : slotsOf (handedLast loans 0 rec room es .rec) (handedLast loans 0 rec room es .room) ≡ empty
-  pub remembers-due : memoryOf (handedLast loans 0 rec room es .rec) ≡ pastAfter mostRemembered cs (startAt cs rec) es .remembered
-  pub made : Made (handedLast loans 0 rec room es .rec) (handedLast loans 0 rec room es .room)
+-- The outcome, where all hand in these: neighbour n is told what is due.
+pub record FulfilledByDeliveries (n : ℕ) (cs : List Cut) (loans : ℕ → Loan) (rec room : List ℕ) (turns : List Handing) (es : List Event) : Type 0 where
+  pub tells : tellings n rec room turns ≡ allDue cs loans 0 es (dueAt n cs rec es)
+  pub ends : Ends n cs rec es (lastRec rec room turns) (lastRoom rec room turns)
 
--- Demand 3, of the payloads' blocks
+-- Demand 3, of the payloads' blocks: where neighbour n's own turns are a schedule that keeps the rules. Nothing is asked of what the others hand in.
 abbrev pub Demand3Deliveries : Type 0
 Demand3Deliveries =
-    (loans : ℕ → Loan) → LongEnough (λ n. loans n .out)
-    → (rec room : List ℕ) → Made rec room → slotsOf rec room ≡ empty
+    (n : ℕ) → n < 4
+    → (loans : ℕ → Loan) → LongEnough (λ k. loans k .out)
+    → (rec room : List ℕ) → Begins n rec room
     → (cs : List Cut) → ((c : ℕ) → c < length cs → Within (getD cs c noCut))
-    → (es : List Event) → ScheduleInWidth cs es → Handed cs loans 0 es → ScheduleAt cs rec es
-    → FulfilledByDeliveries cs loans rec room es
+    → (es : List Event) → ScheduleInWidth cs es → Handed cs loans 0 es → ScheduleAt n cs rec es
+    → (turns : List Handing) → own n turns ≡ handings n loans 0 es
+    → FulfilledByDeliveries n cs loans rec room turns es
 
 -- a piece as a block to be written; `pieceBytes` are written after its fields
 abbrev pub blockOf : Piece → Block

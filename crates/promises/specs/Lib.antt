@@ -11,6 +11,11 @@ pub mod PartitionCalls
 pub mod Settled
 pub mod SettledCalls
 pub mod Demand3
+pub mod FairSlots
+pub mod Demand3Neighbours
+pub mod StoreTurns
+pub mod FairSlotsCalls
 pub mod NoGhost
 pub mod Demand3Calls
 pub mod Demand3Deliveries
+pub mod FairSlotsDeliveries

@@ -3,7 +3,7 @@ use mathlib.Core.Path.{_≡_}
 use mathlib.Core.Bool.{true, cond}
 use mathlib.Core.List.{List, []}
 use mathlib.Core.Option.{none}
-use Prim.Native.Nat.{ℕ, _≤_}
+use Prim.Native.Nat.{ℕ, _≤_, _<_}
 use lib.ListN.{length, replicate}
 use Rattle.reassembly.specs.declared.Label.{Label}
 use Rattle.reassembly.specs.Memory.{remembers}
@@ -11,8 +11,9 @@ use Rattle.reassembly.specs.Store.{Piece, idOf, Store, badLength, badNumber, re
 use Rattle.reassembly.specs.Apart.{Apart}
 use Rattle.reassembly.specs.Runs.{Call, reached}
 use Rattle.reassembly.specs.Remembered.{memoryOf}
-use Rattle.reassembly.specs.Calls.{Lent, refuses, badSize, offNumber, firstCall, followOnCall}
-use Rattle.reassembly.specs.Stands.{Made}
+use Rattle.reassembly.specs.Calls.{Lent, refuses, badSize, offNumber}
+use Rattle.reassembly.specs.Shares.{shareOf, firstCall, followOnCall}
+use Rattle.promises.specs.StoreTurns.{OwnMade}
 
 -- A piece of a remembered id is refused, by 57 where it is not 50 or 51, and the store stays as it was.
 abbrev pub NoGhost : Type 0
@@ -24,11 +25,11 @@ NoGhost =
 abbrev pub AlwaysApart : Type 0
 AlwaysApart = (slots keep : ℕ) → 1 ≤ keep → (cs : List Call) → Apart keep (reached keep (record { slots = replicate slots none; remembered = [] }) cs)
 
--- The same of the calls, on every record and room that calls made: a first piece, and a follow-on piece, of an id that the record remembers.
+-- The same of the calls, on every record and room of which neighbour n's share is one that calls made: a first piece, and a follow-on piece, of an id that this share remembers.
 pub record NoGhostCalls : Type 0 where
   pub first-piece :
-      (x : Lent) → Made (x .rec) (x .room) → (l : Label) (second : ℕ) (v : List ℕ) → remembers (memoryOf (x .rec)) (l .id) ≡ true
-      → firstCall x l second v ≡ refuses (cond (badSize (length v)) 50 57) x
+      (n : ℕ) → n < 4 → (x : Lent) → OwnMade n (x .rec) (x .room) → (l : Label) (second : ℕ) (v : List ℕ) → remembers (memoryOf (shareOf (x .rec) n)) (l .id) ≡ true
+      → firstCall x n l second v ≡ refuses (cond (badSize (length v)) 50 57) x
   pub follow-on-piece :
-      (x : Lent) → Made (x .rec) (x .room) → (l : Label) (second : ℕ) (v : List ℕ) → remembers (memoryOf (x .rec)) (l .id) ≡ true
-      → followOnCall x l second v ≡ refuses (cond (badSize (length v)) 50 (cond (offNumber (l .number)) 51 57)) x
+      (n : ℕ) → n < 4 → (x : Lent) → OwnMade n (x .rec) (x .room) → (l : Label) (second : ℕ) (v : List ℕ) → remembers (memoryOf (shareOf (x .rec) n)) (l .id) ≡ true
+      → followOnCall x n l second v ≡ refuses (cond (badSize (length v)) 50 (cond (offNumber (l .number)) 51 57)) x

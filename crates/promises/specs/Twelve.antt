@@ -34,7 +34,7 @@ pub data Case : Type 0 where
   reports : (calls : List ℕ) (through : ℕ) (runs : List ℕ) → Case
   -- registering a number first of all
   registers : (n answer : ℕ) → Case
-  -- handing pieces to an empty store
+  -- handing pieces to a neighbour's empty store
   rebuilds : (pieces : List Store.Piece) (answers : List ℕ) → Case
 
 -- what a case says of the definitions

@@ -9,7 +9,7 @@ use lib.ListN.{length, getD, set, drop}
 use borrow.Author.Tests.{ltb-false}
 use Rattle.wire.specs.Parts.{same}
 use Rattle.wire.proofs.Tests.{or-neither}
-use Rattle.reassembly.specs.Sizes.{messageSize, roomSize}
+use Rattle.reassembly.specs.Sizes.{messageSize, shareRoom}
 use Rattle.reassembly.specs.declared.Head.{Head}
 use Rattle.reassembly.specs.Store.{Piece, first, follow, idOf, numberOf, finalOf, pieceBytes, isHeld, someHeld, total, plus, badLength, badNumber, repeats, clashes, tooMuch}
 use Rattle.reassembly.specs.Record.{pieceAt}
@@ -44,7 +44,7 @@ number-small (follow id number final bytes) e = let q : number ≤ 127 = ltb-fal
 
 -- ---- the tests of a piece whose slot has the head h
 
-module _ (h : Head) (rec room : List ℕ) (i : ℕ) (f : Fine h rec room i) (long : roomSize ≤ length room) (hi : i < 16) (p : Piece) (gn : badNumber p ≡ false) where
+module _ (h : Head) (rec room : List ℕ) (i : ℕ) (f : Fine h rec room i) (long : shareRoom ≤ length room) (hi : i < 4) (p : Piece) (gn : badNumber p ≡ false) where
   swap₁ : (s a b : Bool) → (((true && s) && a) && b) ≡ ((a && b) && s)
   swap₁ true true true = refl
   swap₁ true true false = refl

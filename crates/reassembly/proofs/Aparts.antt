@@ -14,9 +14,10 @@ use borrow.Author.Tests.{ltb-true, ltb-false}
 use Rattle.reassembly.specs.Memory.{remembers, remember}
 use Rattle.reassembly.specs.Store.{Piece, idOf, Message, Slots, Store, newStore, Answer, SlotsAnswer, slotOf, slotsStep, answerBySlots, step, slotsSweep, sweep}
 use Rattle.reassembly.specs.Apart.{Apart}
+use Rattle.reassembly.specs.Neighbours.{isOpenIn}
 use Rattle.reassembly.proofs.Stores.{none≢some, all-same, Hit, place-open, sweep-free, sweep-drops}
 use Rattle.reassembly.proofs.Memories.{remember-other, forget-remembers, remember-most, forget-most, remember-distinct, forget-distinct}
-use Rattle.reassembly.proofs.Moves.{isOpenIn, open-hit, Moved, stayed, kept, finished, moved, Stepped, is-50, is-51, is-57, by-slots, stepped}
+use Rattle.reassembly.proofs.Moves.{open-hit, Moved, stayed, kept, finished, moved, Stepped, is-50, is-51, is-57, by-slots, stepped}
 
 -- ---- a new store
 
@@ -31,7 +32,7 @@ free-apart slots keep = record {
 }
 
 pub new-apart : (keep : ℕ) → Apart keep newStore
-new-apart keep = free-apart 16 keep
+new-apart keep = free-apart 4 keep
 
 -- ---- a piece
 

@@ -1,16 +1,16 @@
 -- Each branch of a call's definition, from the test that leads there. Assumes nothing.
 use mathlib.Core.Path.{_≡_, refl, sym, ap, _∙_}
-use mathlib.Core.Bool.{Bool, true, false, cond, not, _&&_, false≢true}
+use mathlib.Core.Bool.{Bool, true, false, cond, not, _&&_, or-true, false≢true}
 use mathlib.Core.List.{List}
 use Prim.Native.Nat.{ℕ, _+_, _*_, _≤_, _<_}
 use native.Mathlib.Omega.{arith}
-use lib.Dec.{eqb, ltb}
+use lib.Dec.{eqb, ltb, leb}
 use lib.ListN.{length}
-use borrow.Author.Tests.{lt-ltb, le-ltb, eq-eqb, ne-eqb, le-leb, lt-leb, ltb-true, ltb-false, eqb-false}
+use borrow.Author.Tests.{lt-ltb, le-ltb, eq-eqb, ne-eqb, le-leb, lt-leb, ltb-true, ltb-false, leb-false, eqb-false}
 use native.Mathlib.Numerals.{add-one}
 use Rattle.wire.specs.Parts.{splice, same}
 use Rattle.wire.proofs.Tests.{or-neither}
-use Rattle.reassembly.specs.Sizes.{messageSize, slotSize, roomSize, recordSize}
+use Rattle.reassembly.specs.Sizes.{messageSize, slotSize}
 use Rattle.reassembly.specs.declared.Head.{Head}
 use Rattle.reassembly.specs.declared.Entry.{Entry}
 use Rattle.reassembly.specs.declared.Label.{Label}
@@ -19,9 +19,10 @@ use Rattle.reassembly.specs.Record.{headAt, withHead, entryAt, withEntry
 use Rattle.reassembly.specs.Slots.{firstFrom, isOpenAs, isFree}
 use Rattle.reassembly.specs.Memory.{Finished, remembers}
 use Rattle.reassembly.specs.Remembered.{memoryOf, rememberedIn}
+use Rattle.reassembly.specs.Summary.{openCount, withOpen, lowered, isFull}
 use Rattle.reassembly.specs.Joining.{messageOf, joinsOutside}
 use Rattle.reassembly.specs.Judge.{pick, sameLabel, again, misfits, moreOf, grownBy, isComplete, newHead, noHead, isOld}
-use Rattle.reassembly.specs.Calls.{lent, After, after, bare, keptRec, keptRoom, finished, putIn, compared, added, openedIn, openedNow, rememberedAfter, withRemembered, takenPiece, lentShort, badSize, offNumber, firstCall, followOnCall, sweptAt, sweptTo}
+use Rattle.reassembly.specs.Calls.{lent, After, after, bare, keptRec, keptRoom, finished, putIn, compared, added, openedIn, openedNow, rememberedAfter, withRaised, withRemembered, takenPiece, badSize, offNumber, firstTaken, followOnTaken, sweptAt, sweptTo}
 
 -- a message that is whole has a last number below 128
 pub whole-last : (h : Head) → isComplete h ≡ true → h .last < 128
@@ -126,11 +127,12 @@ pub opened-kept : (rec room rec₁ rec′ room′ : List ℕ) (i k second : ℕ)
 unfolding openedIn
 opened-kept rec room rec₁ rec′ room′ i k second l g₀ g v e₁ e₂ e₃ e₄ e₅ e₆ out = cc
 
-pub swept-old : (rec rec′ : List ℕ) (i second : ℕ) (h z : Head) (b : Bool) → h ≡ headAt rec i → b ≡ isOld second h → b ≡ true → z ≡ noHead → rec′ ≡ withHead rec i z → rec′ ≡ sweptAt second rec i
+pub swept-old : (rec rec₁ rec′ : List ℕ) (i second : ℕ) (h z : Head) (b : Bool) → h ≡ headAt rec i → b ≡ isOld second h → b ≡ true → z ≡ noHead → rec₁ ≡ withHead rec i z → rec′ ≡ lowered rec₁
+    → rec′ ≡ sweptAt second rec i
 unfolding sweptAt
-swept-old rec rec′ i second h z b eh eb t ez er =
+swept-old rec rec₁ rec′ i second h z b eh eb t ez er el =
     let o : isOld second (headAt rec i) ≡ true = ap (isOld second) (sym eh) ∙ sym eb ∙ t in
-    rw o (er ∙ ap (withHead rec i) ez)
+    rw o (el ∙ ap lowered (er ∙ ap (withHead rec i) ez))
 
 pub swept-young : (rec : List ℕ) (i second : ℕ) (h : Head) (b : Bool) → h ≡ headAt rec i → b ≡ isOld second h → b ≡ false → rec ≡ sweptAt second rec i
 unfolding sweptAt
@@ -138,79 +140,87 @@ swept-young rec i second h b eh eb t =
     let o : isOld second (headAt rec i) ≡ false = ap (isOld second) (sym eh) ∙ sym eb ∙ t in
     rw o refl
 
+-- the summary says 4, or no slot is free; else neither
+pub full-count : (rec : List ℕ) → 4 ≤ openCount rec → isFull rec ≡ true
+unfolding isFull
+full-count rec h = rw (le-leb 4 (openCount rec) h) refl
+
+pub full-slots : (rec : List ℕ) → 4 ≤ firstFrom (isFree rec) 0 4 → isFull rec ≡ true
+unfolding isFull
+full-slots rec h = rw (le-leb 4 (firstFrom (isFree rec) 0 4) h) (or-true (leb 4 (openCount rec)))
+
+pub not-full : (rec : List ℕ) → openCount rec < 4 → firstFrom (isFree rec) 0 4 < 4 → isFull rec ≡ false
+unfolding isFull
+not-full rec a b = rw (lt-leb 4 (openCount rec) a, lt-leb 4 (firstFrom (isFree rec) 0 4) b) refl
+
+pub free-slot : (rec : List ℕ) → isFull rec ≡ false → firstFrom (isFree rec) 0 4 < 4
+unfolding isFull
+free-slot rec e = leb-false 4 (firstFrom (isFree rec) 0 4) (or-neither (leb 4 (openCount rec)) (leb 4 (firstFrom (isFree rec) 0 4)) e .1)
+
 module _ (rec room out : List ℕ) (l : Label) (second : ℕ) (v : List ℕ) where
   pub opened-57 : (r : Reply) (b : Bool) → b ≡ remembers (memoryOf rec) (l .id) → b ≡ true → r ≡ bare 57 → after r (lent rec room out) ≡ openedNow (lent rec room out) l second v
   unfolding openedNow
   opened-57 r b e t q = rw (sym e ∙ t, q) refl
 
-  pub opened-52 : (r : Reply) (b : Bool) → b ≡ remembers (memoryOf rec) (l .id) → b ≡ false → 16 ≤ firstFrom (isFree rec) 0 16 → r ≡ bare 52
+  -- 52 by the summary, or where no slot is free
+  pub opened-52 : (r : Reply) (b : Bool) → b ≡ remembers (memoryOf rec) (l .id) → b ≡ false → isFull rec ≡ true → r ≡ bare 52
       → after r (lent rec room out) ≡ openedNow (lent rec room out) l second v
   unfolding openedNow
-  opened-52 r b e f t q = rw (sym e ∙ f, le-leb 16 (firstFrom (isFree rec) 0 16) t, q) refl
+  opened-52 r b e f t q = rw (sym e ∙ f, t, q) refl
 
-  pub opened-in : (x : After) (b : Bool) (i : ℕ) → b ≡ remembers (memoryOf rec) (l .id) → b ≡ false → i ≡ firstFrom (isFree rec) 0 16 → i < 16
-      → x ≡ openedIn (lent rec room out) i l second v → x ≡ openedNow (lent rec room out) l second v
+  pub opened-in : (x : After) (rec′ : List ℕ) (b : Bool) (i n : ℕ) → b ≡ remembers (memoryOf rec) (l .id) → b ≡ false → n ≡ openCount rec → n < 4 → i ≡ firstFrom (isFree rec) 0 4 → i < 4
+      → x ≡ openedIn (lent rec room out) i l second v → rec′ ≡ withOpen (x .left .rec) (n + 1)
+      → after (x .reply) (lent rec′ (x .left .room) (x .left .out)) ≡ openedNow (lent rec room out) l second v
   unfolding openedNow
-  opened-in x b i m f e t q =
-      rw (sym m ∙ f, lt-leb 16 (firstFrom (isFree rec) 0 16) (omega arith)) (q ∙ ap (λ (z : ℕ). openedIn (lent rec room out) z l second v) e)
+  opened-in x rec′ b i n m f en tn e t q er =
+      let full : isFull rec ≡ false = not-full rec (omega arith) (omega arith) in
+      rw (sym m ∙ f, full)
+      (ap (λ (z : List ℕ). after (x .reply) (lent z (x .left .room) (x .left .out))) (er ∙ ap (λ (k : ℕ). withOpen (x .left .rec) (k + 1)) en)
+      ∙ ap (withRaised (lent rec room out)) (q ∙ ap (λ (z : ℕ). openedIn (lent rec room out) z l second v) e))
 
-  pub taken-added : (x : After) (rec′ : List ℕ) (i : ℕ) → i ≡ firstFrom (isOpenAs rec (l .id)) 0 16 → i < 16 → x ≡ added (lent rec room out) i l v
+  pub taken-added : (x : After) (rec′ : List ℕ) (i : ℕ) → i ≡ firstFrom (isOpenAs rec (l .id)) 0 4 → i < 4 → x ≡ added (lent rec room out) i l v
       → rec′ ≡ rememberedAfter (x .left .rec) (x .reply .number) (record { id = l .id; second = second })
       → after (x .reply) (lent rec′ (x .left .room) (x .left .out)) ≡ takenPiece (lent rec room out) l second v
   unfolding takenPiece
   taken-added x rec′ i e t q r =
-      rw (lt-ltb (firstFrom (isOpenAs rec (l .id)) 0 16) 16 (omega arith))
+      rw (lt-ltb (firstFrom (isOpenAs rec (l .id)) 0 4) 4 (omega arith))
       (ap (λ (z : List ℕ). after (x .reply) (lent z (x .left .room) (x .left .out))) r
       ∙ ap (withRemembered l second) (q ∙ ap (λ (z : ℕ). added (lent rec room out) z l v) e))
 
-  pub taken-opened : (x : After) (i : ℕ) → i ≡ firstFrom (isOpenAs rec (l .id)) 0 16 → 16 ≤ i → x ≡ openedNow (lent rec room out) l second v → x ≡ takenPiece (lent rec room out) l second v
+  pub taken-opened : (x : After) (i : ℕ) → i ≡ firstFrom (isOpenAs rec (l .id)) 0 4 → 4 ≤ i → x ≡ openedNow (lent rec room out) l second v → x ≡ takenPiece (lent rec room out) l second v
   unfolding takenPiece
-  taken-opened x i e t q = rw (le-ltb (firstFrom (isOpenAs rec (l .id)) 0 16) 16 (omega arith)) q
+  taken-opened x i e t q = rw (le-ltb (firstFrom (isOpenAs rec (l .id)) 0 4) 4 (omega arith)) q
 
-  pub first-59 : (r : Reply) → lentShort rec room ≡ true → r ≡ bare 59 → after r (lent rec room out) ≡ firstCall (lent rec room out) l second v
-  unfolding firstCall
-  first-59 r t q = rw (t, q) refl
+  pub first-50 : (r : Reply) → badSize (length v) ≡ true → r ≡ bare 50 → after r (lent rec room out) ≡ firstTaken (lent rec room out) l second v
+  unfolding firstTaken
+  first-50 r s q = rw (s, q) refl
 
-  pub first-50 : (r : Reply) → lentShort rec room ≡ false → badSize (length v) ≡ true → r ≡ bare 50 → after r (lent rec room out) ≡ firstCall (lent rec room out) l second v
-  unfolding firstCall
-  first-50 r t s q = rw (t, s, q) refl
+  pub first-taken : (x : After) → badSize (length v) ≡ false → x ≡ takenPiece (lent rec room out) l second v → x ≡ firstTaken (lent rec room out) l second v
+  unfolding firstTaken
+  first-taken x s q = rw s q
 
-  pub first-taken : (x : After) → lentShort rec room ≡ false → badSize (length v) ≡ false → x ≡ takenPiece (lent rec room out) l second v → x ≡ firstCall (lent rec room out) l second v
-  unfolding firstCall
-  first-taken x t s q = rw (t, s) q
+  pub follow-50 : (r : Reply) → badSize (length v) ≡ true → r ≡ bare 50 → after r (lent rec room out) ≡ followOnTaken (lent rec room out) l second v
+  unfolding followOnTaken
+  follow-50 r s q = rw (s, q) refl
 
-  pub follow-59 : (r : Reply) → lentShort rec room ≡ true → r ≡ bare 59 → after r (lent rec room out) ≡ followOnCall (lent rec room out) l second v
-  unfolding followOnCall
-  follow-59 r t q = rw (t, q) refl
+  pub follow-51 : (r : Reply) → badSize (length v) ≡ false → offNumber (l .number) ≡ true → r ≡ bare 51 → after r (lent rec room out) ≡ followOnTaken (lent rec room out) l second v
+  unfolding followOnTaken
+  follow-51 r s n q = rw (s, n, q) refl
 
-  pub follow-50 : (r : Reply) → lentShort rec room ≡ false → badSize (length v) ≡ true → r ≡ bare 50 → after r (lent rec room out) ≡ followOnCall (lent rec room out) l second v
-  unfolding followOnCall
-  follow-50 r t s q = rw (t, s, q) refl
-
-  pub follow-51 : (r : Reply) → lentShort rec room ≡ false → badSize (length v) ≡ false → offNumber (l .number) ≡ true → r ≡ bare 51 → after r (lent rec room out) ≡ followOnCall (lent rec room out) l second v
-  unfolding followOnCall
-  follow-51 r t s n q = rw (t, s, n, q) refl
-
-  pub follow-taken : (x : After) → lentShort rec room ≡ false → badSize (length v) ≡ false → offNumber (l .number) ≡ false → x ≡ takenPiece (lent rec room out) l second v → x ≡ followOnCall (lent rec room out) l second v
-  unfolding followOnCall
-  follow-taken x t s n q = rw (t, s, n) q
+  pub follow-taken : (x : After) → badSize (length v) ≡ false → offNumber (l .number) ≡ false → x ≡ takenPiece (lent rec room out) l second v → x ≡ followOnTaken (lent rec room out) l second v
+  unfolding followOnTaken
+  follow-taken x s n q = rw (s, n) q
 
 -- a record is answerBySlots: with 60 the message is remembered
-pub remembered-60 : (rec rec′ : List ℕ) (n : ℕ) (f : Finished) → n ≡ 60 → rec′ ≡ rememberedIn rec f → rec′ ≡ rememberedAfter rec n f
+pub remembered-60 : (rec rec₁ rec′ : List ℕ) (n : ℕ) (f : Finished) → n ≡ 60 → rec₁ ≡ lowered rec → rec′ ≡ rememberedIn rec₁ f → rec′ ≡ rememberedAfter rec n f
 unfolding rememberedAfter
-remembered-60 rec rec′ n f e q = rw (eq-eqb n 60 e) q
+remembered-60 rec rec₁ rec′ n f e p q = rw (eq-eqb n 60 e) (q ∙ ap (λ (z : List ℕ). rememberedIn z f) p)
 
 pub remembered-not : (rec : List ℕ) (n : ℕ) (f : Finished) → (n ≡ 60 → ⊥) → rec ≡ rememberedAfter rec n f
 unfolding rememberedAfter
 remembered-not rec n f e = rw (ne-eqb n 60 e) refl
 
--- what the tests that were passed say of the lengths and the number
-pub long-lent : (rec room : List ℕ) → lentShort rec room ≡ false → (recordSize ≤ length rec) × (roomSize ≤ length room)
-unfolding lentShort
-long-lent rec room e =
-    let p = or-neither (ltb (length rec) recordSize) (ltb (length room) roomSize) e in
-    (ltb-false (length rec) recordSize (p .0), ltb-false (length room) roomSize (p .1))
-
+-- what the tests that were passed say of the length and the number
 pub good-size : (n : ℕ) → badSize n ≡ false → (0 < n) × (n ≤ 1500)
 unfolding badSize
 good-size n e =

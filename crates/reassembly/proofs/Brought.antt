@@ -11,8 +11,10 @@ use borrow.Author.Tests.{ltb-false}
 use Rattle.wire.specs.Parts.{splice}
 use Rattle.reassembly.specs.Memory.{remembers}
 use Rattle.reassembly.specs.Store.{Piece, Message, Slots, Store, Rebuilt, Answer, SlotsAnswer, idOf, slotOf, plus, badLength, badNumber, repeats, clashes, tooMuch, complete, rebuiltOf, tooShort, slotsRefuse, answer, slotsStep, refused, answerBySlots, step}
+use Rattle.reassembly.specs.Sizes.{mostRemembered}
+use Rattle.reassembly.specs.Neighbours.{Neighbours, storeOf, isOpenIn, NeighboursAnswer, answerFrom, stepFrom}
 use Rattle.reassembly.specs.Calls.{After}
-use Rattle.reassembly.specs.Stands.{Agrees, replyFor, laidOut}
+use Rattle.reassembly.specs.Stands.{replyFor, laidOut}
 use Rattle.reassembly.proofs.Refines.{number-of}
 
 -- An answer brings a message out exactly with 60, and one that the assembly buffer holds.
@@ -61,17 +63,28 @@ step-sober keep cap s p second = go (badLength p) (badNumber p) (remembers (s .r
     go false false true = quiet cap 57 (λ e. omega arith)
     go false false false = sober cap (s .slots) p (slotOf (idOf p) (s .slots)) _
 
-module _ (out : List ℕ) (x : After) (a : Answer) (g : Agrees out x a) where
-  -- a call's reply has the answer's number
-  pub reply-number : x .reply .number ≡ a .number
-  reply-number = ap (λ r. r .number) (g .reply) ∙ number-of (a .number) (a .out)
+-- so is the answer to a neighbour's piece
+pub from-sober : (cap : ℕ) (s : Neighbours) (n : ℕ) (p : Piece) (second : ℕ) → Sober cap (stepFrom cap s n p second .number) (stepFrom cap s n p second .out)
+unfolding stepFrom answerFrom
+from-sober cap s n p second = go (ltb 3 n)
+  where
+    go : (b : Bool) → let x : NeighboursAnswer = cond b (record { number = 58; out = none; left = s }) (answerFrom s n (isOpenIn (idOf p) (storeOf s n .slots)) (step mostRemembered cap (storeOf s n) p second)) in
+        Sober cap (x .number) (x .out)
+    go true = quiet cap 58 (λ e. omega arith)
+    go false = step-sober mostRemembered cap (storeOf s n) p second
+
+-- a call's reply and assembly buffer are those of an answer with a number and a message that came out, or none
+module _ (out : List ℕ) (x : After) (n : ℕ) (o : Option Rebuilt) (reply : x .reply ≡ replyFor n o) (delivered : x .left .out ≡ laidOut out o) where
+  -- the reply has the answer's number
+  pub reply-number : x .reply .number ≡ n
+  reply-number = ap (λ r. r .number) reply ∙ number-of n o
 
   -- and the head and the length of a message that came out
-  pub reply-some : (w : Rebuilt) → a .out ≡ some w → x .reply ≡ record { number = a .number; kind = w .kind; expires = w .expires; length = length (w .bytes) }
+  pub reply-some : (w : Rebuilt) → o ≡ some w → x .reply ≡ record { number = n; kind = w .kind; expires = w .expires; length = length (w .bytes) }
   unfolding replyFor
-  reply-some w e = g .reply ∙ ap (replyFor (a .number)) e
+  reply-some w e = reply ∙ ap (replyFor n) e
 
   -- whose bytes stand at the start of the assembly buffer
-  pub laid-some : (w : Rebuilt) → a .out ≡ some w → x .left .out ≡ splice out 0 (w .bytes)
+  pub laid-some : (w : Rebuilt) → o ≡ some w → x .left .out ≡ splice out 0 (w .bytes)
   unfolding laidOut
-  laid-some w e = g .delivered ∙ ap (laidOut out) e
+  laid-some w e = delivered ∙ ap (laidOut out) e

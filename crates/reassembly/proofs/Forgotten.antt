@@ -6,7 +6,7 @@ use mathlib.Core.Logic.{inl, inr}
 use Prim.Native.Nat.{ℕ, zero, suc, _+_, _≤_, _<_}
 use native.Mathlib.Omega.{arith}
 use lib.ListN.{length}
-use Rattle.reassembly.specs.Sizes.{mostRemembered, recordSize}
+use Rattle.reassembly.specs.Sizes.{mostRemembered, idsAt, shareSize}
 use Rattle.wire.specs.Series.{series}
 use Rattle.reassembly.specs.Memory.{Finished, Memory, isDue, forget}
 use Rattle.reassembly.specs.Remembered.{rememberedCount, finishedAt, memoryOf, withCount, movedTo, Sifted, sifted, siftedOne, siftedTo, forgottenIn}
@@ -18,11 +18,11 @@ use Rattle.reassembly.proofs.Remembered.{count-most, blank, memory-is, 
 -- what holds once the first n are sifted: those that are kept stand first, and those that are not yet sifted are as they were
 record Sifting (second : ℕ) (rec : List ℕ) (n : ℕ) (x : Sifted) : Type 0 where
   few : x .count ≤ n
-  behind : Behind rec (x .rec)
+  behind : Behind idsAt rec (x .rec)
   ahead : (i : ℕ) → n ≤ i → i < mostRemembered → finishedAt (x .rec) i ≡ finishedAt rec i
   kept : series (finishedAt (x .rec)) 0 (x .count) ≡ forget second (series (finishedAt rec) 0 n)
 
-module _ (second : ℕ) (rec : List ℕ) (long : recordSize ≤ length rec) where
+module _ (second : ℕ) (rec : List ℕ) (long : shareSize ≤ length rec) where
   forget-turn : (n : ℕ) (b : Bool) → isDue second (finishedAt rec n) ≡ b → forget second (series (finishedAt rec) 0 (n + 1)) ≡ forget second (series (finishedAt rec) 0 n) ++ cond b [] (finishedAt rec n ∷ [])
   forget-turn n b e =
       ap (forget second) (series-more (finishedAt rec) n)
@@ -44,8 +44,8 @@ module _ (second : ℕ) (rec : List ℕ) (long : recordSize ≤ length rec) wher
       go false e =
           let c : ℕ = x .count in
           let y : List ℕ = movedTo (x .rec) (x .count) n 1 in
-          let lx : recordSize ≤ length (x .rec) = omega (arith, s .behind .long) in
-          let m : Behind (x .rec) (movedTo (x .rec) (x .count) n 1) = moved-behind (x .rec) (x .count) n 1 lx (s .few) (omega arith) in
+          let lx : shareSize ≤ length (x .rec) = omega (arith, s .behind .long) in
+          let m : Behind idsAt (x .rec) (movedTo (x .rec) (x .count) n 1) = moved-behind (x .rec) (x .count) n 1 lx (s .few) (omega arith) in
           let a : x .count + 0 ≡ x .count = omega arith in
           let b : n + 0 ≡ n = omega arith in
           let same : finishedAt y c ≡ finishedAt rec n =
@@ -64,7 +64,7 @@ module _ (second : ℕ) (rec : List ℕ) (long : recordSize ≤ length rec) wher
 
   sifting : (n : ℕ) → n ≤ mostRemembered → Sifting second rec n (siftedTo second rec n)
   unfolding forget
-  sifting zero h = record { few = omega arith; behind = behind-none rec; ahead = λ i g k. refl; kept = refl }
+  sifting zero h = record { few = omega arith; behind = behind-none idsAt rec; ahead = λ i g k. refl; kept = refl }
   sifting (suc n) h =
       let e : n + 1 ≡ suc n = omega arith in
       rw e at (sifting-turn n (siftedTo second rec n) (omega arith) (sifting n (omega arith)))
@@ -72,7 +72,7 @@ module _ (second : ℕ) (rec : List ℕ) (long : recordSize ≤ length rec) wher
   all-sifted : Sifting second rec (rememberedCount rec) (siftedTo second rec (rememberedCount rec))
   all-sifted = sifting (rememberedCount rec) (count-most rec)
 
-  pub forgotten-behind : Behind rec (forgottenIn second rec)
+  pub forgotten-behind : Behind idsAt rec (forgottenIn second rec)
   unfolding forgottenIn
   forgotten-behind =
       let x : Sifted = siftedTo second rec (rememberedCount rec) in
@@ -82,7 +82,7 @@ module _ (second : ℕ) (rec : List ℕ) (long : recordSize ≤ length rec) wher
   unfolding forgottenIn memoryOf
   forgotten-memory =
       let x : Sifted = siftedTo second rec (rememberedCount rec) in
-      let lx : recordSize ≤ length (x .rec) = omega (arith, all-sifted .behind .long) in
+      let lx : shareSize ≤ length (x .rec) = omega (arith, all-sifted .behind .long) in
       memory-is (withCount (x .rec) (x .count)) (x .count) (finishedAt (x .rec))
       (saved-count (x .rec) (x .count) lx (omega (arith, all-sifted .few, count-most rec)))
       (λ k h. saved-same (x .rec) (x .count) lx k (omega (arith, all-sifted .few, count-most rec)))

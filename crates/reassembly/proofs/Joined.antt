@@ -13,12 +13,12 @@ use borrow.Author.Tests.{eq-eqb, ne-eqb, le-ltb, ltb-false}
 use Rattle.wire.specs.Parts.{splice}
 use Rattle.wire.proofs.Parts.{length-part, splice-join}
 use Rattle.wire.proofs.Tests.{or-neither}
-use Rattle.reassembly.specs.Sizes.{slotSize, roomSize}
+use Rattle.reassembly.specs.Sizes.{slotSize, shareRoom}
 use Rattle.reassembly.specs.declared.Entry.{Entry}
 use Rattle.reassembly.specs.Record.{roomOf, entryAt, outside, pieceAt}
 use Rattle.reassembly.specs.Joining.{pieceOr, joinedBelow, messageOf, outsideOr, someOf, joinsOutside, lengthOr, sumOf}
 
-pub length-room : (room : List ℕ) (i : ℕ) → roomSize ≤ length room → i < 16 → length (roomOf room i) ≡ slotSize
+pub length-room : (room : List ℕ) (i : ℕ) → shareRoom ≤ length room → i < 4 → length (roomOf room i) ≡ slotSize
 unfolding roomOf
 length-room room i h k = length-part room (i * slotSize) slotSize (omega arith)
 
@@ -32,7 +32,7 @@ unfolding outside
 le-inside e h = le-ltb slotSize (e .place + e .len) h
 
 -- a piece that is not outside is as long as its entry says
-pub inside-length : (rec room : List ℕ) (i k : ℕ) → roomSize ≤ length room → i < 16 → outside (entryAt rec i k) ≡ false → length (pieceAt rec room i k) ≡ entryAt rec i k .len
+pub inside-length : (rec room : List ℕ) (i k : ℕ) → shareRoom ≤ length room → i < 4 → outside (entryAt rec i k) ≡ false → length (pieceAt rec room i k) ≡ entryAt rec i k .len
 unfolding pieceAt
 inside-length rec room i k long hi q =
     length-part (roomOf room i) (entryAt rec i k .place) (entryAt rec i k .len) (omega (arith, inside-le (entryAt rec i k) q, length-room room i long hi))
@@ -93,7 +93,7 @@ more-mono f m (suc n) h =
     ⊎-elim (λ (q : m ≡ suc n). rw q (omega arith)) (λ (q : m < suc n). omega (arith, more-mono f m n (omega arith), length-append (joinedBelow f n) (f n))) (eq-or-lt-of-le h)
 
 -- where none is outside, the lengths of the entries add up to the message's
-lengths : (rec room : List ℕ) (i m : ℕ) (v : List ℕ) → roomSize ≤ length room → i < 16 → (n : ℕ) → someOf (outsideOr rec i m) n ≡ false
+lengths : (rec room : List ℕ) (i m : ℕ) (v : List ℕ) → shareRoom ≤ length room → i < 4 → (n : ℕ) → someOf (outsideOr rec i m) n ≡ false
     → sumOf (lengthOr rec i m (length v)) n ≡ length (joinedBelow (pieceOr rec room i m v) n)
 lengths rec room i m v long hi zero e = refl
 lengths rec room i m v long hi (suc n) e =
@@ -109,7 +109,7 @@ lengths rec room i m v long hi (suc n) e =
         length-held rec i m (length v) n y
         ∙ sym (ap length (piece-held rec room i m v n y) ∙ inside-length rec room i n long hi (sym (outside-held rec i m n y) ∙ o))
 
-pub measured : (rec room : List ℕ) (i m : ℕ) (v : List ℕ) (n : ℕ) (o : Bool) (size : ℕ) → roomSize ≤ length room → i < 16
+pub measured : (rec room : List ℕ) (i m : ℕ) (v : List ℕ) (n : ℕ) (o : Bool) (size : ℕ) → shareRoom ≤ length room → i < 4
     → o ≡ joinsOutside rec i m n → size ≡ sumOf (lengthOr rec i m (length v)) n → o ≡ false → size ≡ length (messageOf rec room i m v n)
 unfolding joinsOutside messageOf
 measured rec room i m v n o size long hi eo es f = es ∙ lengths rec room i m v long hi n (sym eo ∙ f)

@@ -12,7 +12,7 @@ use lib.Seq.{getD-set-same, getD-set-other}
 use borrow.Author.Tests.{lt-ltb, ltb-true, ltb-false}
 use Rattle.wire.specs.Parts.{part}
 use Rattle.wire.proofs.Parts.{part-same, part-before}
-use Rattle.reassembly.specs.Sizes.{messageSize, roomSize, recordSize}
+use Rattle.reassembly.specs.Sizes.{messageSize, shareRoom, shareSize}
 use Rattle.reassembly.specs.declared.Head.{Head}
 use Rattle.reassembly.specs.declared.Entry.{Entry}
 use Rattle.reassembly.specs.declared.Label.{Label}
@@ -37,7 +37,7 @@ pub table-at : (rec room : List ℕ) (i k : ℕ) → k < 128 → getD (tableAt r
 unfolding tableAt
 table-at rec room i k h = getD-series (pieceAt rec room i) 128 k [] h
 
-module _ (h : Head) (rec room : List ℕ) (i : ℕ) (f : Fine h rec room i) (long : roomSize ≤ length room) (hi : i < 16) where
+module _ (h : Head) (rec room : List ℕ) (i : ℕ) (f : Fine h rec room i) (long : shareRoom ≤ length room) (hi : i < 4) where
   -- no entry names bytes outside
   pub never-outside : (k : ℕ) → k < 128 → outside (entryAt rec i k) ≡ false
   never-outside k hk = le-inside (entryAt rec i k) (omega (arith, f .inside k hk, f .small))
@@ -72,7 +72,7 @@ module _ (h : Head) (rec room : List ℕ) (i : ℕ) (f : Fine h rec room i) (lon
       go false e = rw e refl
 
 -- A piece v is kept as number l .number, which was not held and does not misfit.
-module _ (h : Head) (rec room : List ℕ) (i : ℕ) (f : Fine h rec room i) (rlong : recordSize ≤ length rec) (long : roomSize ≤ length room) (hi : i < 16)
+module _ (h : Head) (rec room : List ℕ) (i : ℕ) (f : Fine h rec room i) (rlong : shareSize ≤ length rec) (long : shareRoom ≤ length room) (hi : i < 4)
     (l : Label) (v : List ℕ) (hn : l .number < 128) (some-bytes : 1 ≤ length v) (few : length v ≤ 1500) (fits : h .total + length v ≤ messageSize)
     (lx : l .expires < 4294967296)
     (free : isHeld (getD (tableAt rec room i) (l .number) []) ≡ false) (ok : misfits h l ≡ false) where
@@ -91,7 +91,7 @@ module _ (h : Head) (rec room : List ℕ) (i : ℕ) (f : Fine h rec room i) (rlo
   abbrev room′ : List ℕ
   room′ = keptRoom room i (h .total) v
 
-  long₁ : recordSize ≤ length rec₁
+  long₁ : shareSize ≤ length rec₁
   long₁ = omega (arith, length-entry rec rlong i hi (l .number) hn e)
 
   pick-below : (b : Bool) (x y m : ℕ) → x < m → y < m → pick b x y < m

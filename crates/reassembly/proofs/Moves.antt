@@ -11,12 +11,9 @@ use lib.Dec.{eqb, ltb, leb}
 use borrow.Author.Tests.{eqb-true, ltb-true, leb-true, leb-false}
 use Rattle.reassembly.specs.Memory.{remembers}
 use Rattle.reassembly.specs.Store.{Piece, first, follow, idOf, Message, Slots, SlotsAnswer, findId, findFree, slotOf, messageOr, plus, Store, Answer, badLength, badNumber, repeats, clashes, tooMuch, complete, tooShort, slotsRefuse, answer, slotsStep, refused, answerBySlots, step}
+use Rattle.reassembly.specs.Neighbours.{isOpenIn}
 use Rattle.reassembly.proofs.Searches.{free-none}
 use Rattle.reassembly.proofs.Stores.{Hit, hit-later, message-open, message-new, plus-id}
-
--- a message of this id is open
-unfoldable pub isOpenIn : ℕ → Slots → Bool
-isOpenIn id s = ltb (findId id s) (length s)
 
 -- what is found has the id
 found-there : (id : ℕ) (s : Slots) → findId id s < length s → Hit id s (findId id s)

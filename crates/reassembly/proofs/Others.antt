@@ -10,7 +10,7 @@ use native.Mathlib.Decide.{ℕ-discrete}
 use lib.Dec.{eqb}
 use lib.ListN.{length, set}
 use Rattle.wire.specs.Parts.{part}
-use Rattle.reassembly.specs.Sizes.{messageSize, roomSize, recordSize}
+use Rattle.reassembly.specs.Sizes.{messageSize, shareRoom, shareSize}
 use Rattle.reassembly.specs.declared.Head.{Head}
 use Rattle.reassembly.specs.declared.Entry.{Entry}
 use Rattle.reassembly.specs.Store.{Message}
@@ -25,9 +25,9 @@ use Rattle.reassembly.proofs.Written.{head-same, head-other, head-entry
 
 -- the slots other than i have the same heads, entries and room
 pub record Others (rec room rec′ room′ : List ℕ) (i : ℕ) : Type 0 where
-  pub heads : (j : ℕ) → j < 16 → j ≢ i → headAt rec′ j ≡ headAt rec j
-  pub entries : (j k : ℕ) → j < 16 → j ≢ i → k < 128 → entryAt rec′ j k ≡ entryAt rec j k
-  pub rooms : (j : ℕ) → j < 16 → j ≢ i → roomOf room′ j ≡ roomOf room j
+  pub heads : (j : ℕ) → j < 4 → j ≢ i → headAt rec′ j ≡ headAt rec j
+  pub entries : (j k : ℕ) → j < 4 → j ≢ i → k < 128 → entryAt rec′ j k ≡ entryAt rec j k
+  pub rooms : (j : ℕ) → j < 4 → j ≢ i → roomOf room′ j ≡ roomOf room j
 
 -- two changes one after the other
 pub others-both : (rec room rec₁ room₁ rec₂ room₂ : List ℕ) (i : ℕ) → Others rec room rec₁ room₁ i → Others rec₁ room₁ rec₂ room₂ i → Others rec room rec₂ room₂ i
@@ -74,19 +74,19 @@ pub free-same : (rec rec′ : List ℕ) (j : ℕ) → headAt rec′ j ≡ headAt
 unfolding isFree
 free-same rec rec′ j h = ap (λ (x : Head). eqb (x .count) 0) (sym h)
 
-module _ (rec room rec′ room′ : List ℕ) (i : ℕ) (m : SlotsMade rec room) (lr : recordSize ≤ length rec′) (lm : roomSize ≤ length room′) (hi : i < 16)
+module _ (rec room rec′ room′ : List ℕ) (i : ℕ) (m : SlotsMade rec room) (lr : shareSize ≤ length rec′) (lm : shareRoom ≤ length room′) (hi : i < 4)
     (o : Others rec room rec′ room′ i) where
   -- the store with another message, or none, in slot i
   pub stands-with : (x : Option Message) → slotAt rec′ room′ i ≡ x → slotsOf rec′ room′ ≡ set (slotsOf rec room) i x
   unfolding slotsOf
   stands-with x e =
-      series-set (slotAt rec room) (slotAt rec′ room′) 16 i x none hi e
+      series-set (slotAt rec room) (slotAt rec′ room′) 4 i x none hi e
       (λ j hj q. slot-same rec room rec′ room′ j (λ k hk. o .entries j k hj q hk) (o .rooms j hj q) (o .heads j hj q))
 
   pub made-with : (isFree rec′ i ≡ false → Fine (headAt rec′ i) rec′ room′ i) → SlotsMade rec′ room′
   made-with f = record { record-long = lr; room-long = lm; slots = λ j hj e. go j hj e (ℕ-discrete j i) }
     where
-      go : (j : ℕ) → j < 16 → isFree rec′ j ≡ false → Dec (j ≡ i) → Fine (headAt rec′ j) rec′ room′ j
+      go : (j : ℕ) → j < 4 → isFree rec′ j ≡ false → Dec (j ≡ i) → Fine (headAt rec′ j) rec′ room′ j
       go j hj e (yes q) = subst (λ (z : ℕ). Fine (headAt rec′ z) rec′ room′ z) (sym q) (f (subst (λ (z : ℕ). isFree rec′ z ≡ false) q e))
       go j hj e (no q) =
           let h : headAt rec′ j ≡ headAt rec j = o .heads j hj q in
@@ -95,22 +95,22 @@ module _ (rec room rec′ room′ : List ℕ) (i : ℕ) (m : SlotsMade rec room)
           (fine-same rec room rec′ room′ j (λ k hk. o .entries j k hj q hk) (o .rooms j hj q) (headAt rec j) (m .slots j hj e′))
 
 -- a head put
-pub others-head : (rec room : List ℕ) (i : ℕ) (h : Head) → recordSize ≤ length rec → i < 16 → Others rec room (withHead rec i h) room i
+pub others-head : (rec room : List ℕ) (i : ℕ) (h : Head) → shareSize ≤ length rec → i < 4 → Others rec room (withHead rec i h) room i
 others-head rec room i h l hi =
     record { heads = λ j hj q. head-other rec l i hi h j q; entries = λ j k hj q hk. head-entry rec l i hi h j k; rooms = λ j hj q. refl }
 
 -- the entries cleared
-pub others-cleared : (rec room : List ℕ) (i : ℕ) → recordSize ≤ length rec → i < 16 → Others rec room (cleared rec i) room i
+pub others-cleared : (rec room : List ℕ) (i : ℕ) → shareSize ≤ length rec → i < 4 → Others rec room (cleared rec i) room i
 others-cleared rec room i l hi =
     record { heads = λ j hj q. cleared-head rec l i hi j hj; entries = λ j k hj q hk. cleared-other rec l i hi j k q hk; rooms = λ j hj q. refl }
 
 -- a piece kept
-pub others-kept : (rec room : List ℕ) (i k t : ℕ) (v : List ℕ) (g : Head) → recordSize ≤ length rec → roomSize ≤ length room → i < 16 → k < 128 → t + length v ≤ messageSize
+pub others-kept : (rec room : List ℕ) (i k t : ℕ) (v : List ℕ) (g : Head) → shareSize ≤ length rec → shareRoom ≤ length room → i < 4 → k < 128 → t + length v ≤ messageSize
     → Others rec room (keptRec rec i k t (length v) g) (keptRoom room i t v) i
 unfolding keptRec
 others-kept rec room i k t v g l lm hi hk fits =
     let e : Entry = record { place = t; len = length v } in
-    let l₁ : recordSize ≤ length (withEntry rec i k (record { place = t; len = length v })) = omega (arith, length-entry rec l i hi k hk (record { place = t; len = length v })) in
+    let l₁ : shareSize ≤ length (withEntry rec i k (record { place = t; len = length v })) = omega (arith, length-entry rec l i hi k hk (record { place = t; len = length v })) in
     record {
       heads = λ j hj q. head-other (withEntry rec i k (record { place = t; len = length v })) l₁ i hi g j q ∙ entry-head rec l i hi k hk (record { place = t; len = length v }) j hj;
       entries = λ j m hj q hm. head-entry (withEntry rec i k (record { place = t; len = length v })) l₁ i hi g j m ∙ entry-other rec l i hi k hk (record { place = t; len = length v }) j m q hm;
@@ -122,12 +122,12 @@ pub no-head-fits : HeadFits noHead
 unfolding noHead
 no-head-fits = record { id = omega arith; opened = omega arith; expires = omega arith; total = omega arith }
 
-pub freed-slot : (rec room : List ℕ) (i : ℕ) → recordSize ≤ length rec → i < 16 → slotAt (withHead rec i noHead) room i ≡ none
+pub freed-slot : (rec room : List ℕ) (i : ℕ) → shareSize ≤ length rec → i < 4 → slotAt (withHead rec i noHead) room i ≡ none
 unfolding slotAt isFree
 freed-slot rec room i l hi =
     ap (λ (h : Head). cond (eqb (h .count) 0) none (some (messageWith (headAt (withHead rec i noHead) i) (withHead rec i noHead) room i))) (head-same rec l i hi noHead no-head-fits)
     ∙ (unfold noHead in refl)
 
-pub freed-free : (rec : List ℕ) (i : ℕ) → recordSize ≤ length rec → i < 16 → isFree (withHead rec i noHead) i ≡ true
+pub freed-free : (rec : List ℕ) (i : ℕ) → shareSize ≤ length rec → i < 4 → isFree (withHead rec i noHead) i ≡ true
 unfolding isFree
 freed-free rec i l hi = ap (λ (h : Head). eqb (h .count) 0) (head-same rec l i hi noHead no-head-fits) ∙ (unfold noHead in refl)

@@ -9,7 +9,7 @@ use native.Mathlib.Numerals.{add-one}
 use lib.Dec.{eqb, ltb}
 use lib.ListN.{length, getD, set, take}
 use borrow.Author.Tests.{ne-eqb, lt-ltb, le-ltb, ltb-false, lt-leb}
-use Rattle.reassembly.specs.Sizes.{messageSize, roomSize, recordSize}
+use Rattle.reassembly.specs.Sizes.{messageSize, shareRoom, shareSize}
 use Rattle.reassembly.specs.declared.Head.{Head}
 use Rattle.reassembly.specs.declared.Label.{Label}
 use Rattle.wire.specs.Series.{series}
@@ -61,7 +61,7 @@ pub size-of : (p : Piece) → badLength p ≡ false → (1 ≤ length (pieceByte
 size-of p e = let q = good-size (length (pieceBytes p)) (sym (good-length p) ∙ e) in (omega (arith, q .0), q .1)
 
 -- A piece that fits a slot whose head is h.
-module _ (h : Head) (rec room : List ℕ) (i : ℕ) (f : Fine h rec room i) (rlong : recordSize ≤ length rec) (long : roomSize ≤ length room) (hi : i < 16)
+module _ (h : Head) (rec room : List ℕ) (i : ℕ) (f : Fine h rec room i) (rlong : shareSize ≤ length rec) (long : shareRoom ≤ length room) (hi : i < 4)
     (p : Piece) (gl : badLength p ≡ false) (gn : badNumber p ≡ false) (lx : labelOf p .expires < 4294967296)
     (free : isHeld (getD (tableAt rec room i) (labelOf p .number) []) ≡ false) (ok : misfits h (labelOf p) ≡ false)
     (out : List ℕ) (s : Slots) (in-s : i < length s) where
@@ -103,10 +103,10 @@ module _ (h : Head) (rec room : List ℕ) (i : ℕ) (f : Fine h rec room i) (rlo
     head′ : headAt rec′ i ≡ g
     head′ = kept-head h rec room i f rlong long hi l v (number-small p gn) (size-of p gl .0) (size-of p gl .1) fits lx free ok
 
-    long-rec′ : recordSize ≤ length rec′
+    long-rec′ : shareSize ≤ length rec′
     long-rec′ = omega (arith, kept-long h rec room i f rlong long hi l v (number-small p gn) (size-of p gl .0) (size-of p gl .1) fits lx free ok)
 
-    long-room′ : roomSize ≤ length room′
+    long-room′ : shareRoom ≤ length room′
     long-room′ = omega (arith, length-kept room long i hi (h .total) v fits)
 
     with-piece : plus m p ≡ messageWith g rec′ room′ i

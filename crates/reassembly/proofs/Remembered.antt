@@ -13,7 +13,7 @@ use Rattle.wire.specs.Parts.{part, splice}
 use Rattle.wire.specs.Numbers.{little, littleAt, littleBytes}
 use Rattle.wire.proofs.Parts.{length-part, part-all, part-part, part-before, part-after, part-other, part-within, stores-splice}
 use Rattle.wire.proofs.Numbers.{length-little, little-back}
-use Rattle.reassembly.specs.Sizes.{mostRemembered, idsAt, idSize, secondsAt, secondSize, countAt, recordSize}
+use Rattle.reassembly.specs.Sizes.{mostRemembered, idsAt, idSize, secondsAt, secondSize, countAt, shareSize}
 use Rattle.wire.specs.Series.{series}
 use Rattle.reassembly.specs.Memory.{Finished, Memory, remember}
 use Rattle.reassembly.specs.Remembered.{rememberedCount, finishedAt, memoryOf, withCount, withFinished, movedTo, rememberedIn}
@@ -32,13 +32,13 @@ module _ (rec rec′ : List ℕ) (same : drop idsAt rec′ ≡ drop idsAt rec) w
   behind-part o n = ap (take n) (sym (drop-drop o idsAt rec′) ∙ ap (drop o) same ∙ drop-drop o idsAt rec)
 
   behind-count : getD rec′ countAt 0 ≡ getD rec countAt 0
-  behind-count = sym (getD-drop idsAt rec′ 768 0) ∙ ap (λ (z : List ℕ). getD z 768 0) same ∙ getD-drop idsAt rec 768 0
+  behind-count = sym (getD-drop idsAt rec′ 192 0) ∙ ap (λ (z : List ℕ). getD z 192 0) same ∙ getD-drop idsAt rec 192 0
 
   behind-finished : (k : ℕ) → finishedAt rec′ k ≡ finishedAt rec k
   behind-finished k =
-      let e : idsAt + (256 + k * secondSize) ≡ secondsAt + k * secondSize = omega arith in
+      let e : idsAt + (64 + k * secondSize) ≡ secondsAt + k * secondSize = omega arith in
       finished-is rec′ rec k k (behind-part (k * idSize) idSize)
-      (ap (λ (p : ℕ). part rec′ p secondSize) (sym e) ∙ behind-part (256 + k * secondSize) secondSize ∙ ap (λ (p : ℕ). part rec p secondSize) e)
+      (ap (λ (p : ℕ). part rec′ p secondSize) (sym e) ∙ behind-part (64 + k * secondSize) secondSize ∙ ap (λ (p : ℕ). part rec p secondSize) e)
 
 -- the count is read of the byte at its place
 pub count-is : (rec : List ℕ) (n : ℕ) → getD rec countAt 0 ≡ n → n ≤ mostRemembered → rememberedCount rec ≡ n
@@ -77,7 +77,7 @@ pub none-memory : (rec : List ℕ) → getD rec countAt 0 ≡ 0 → memoryOf rec
 unfolding memoryOf
 none-memory rec e = ap (series (finishedAt rec) 0) (count-is rec 0 e (omega arith))
 
-pub zeros-memory : (rec : List ℕ) (n : ℕ) → recordSize ≤ n → memoryOf (splice rec 0 (replicate n 0)) ≡ []
+pub zeros-memory : (rec : List ℕ) (n : ℕ) → shareSize ≤ n → memoryOf (splice rec 0 (replicate n 0)) ≡ []
 unfolding splice
 zeros-memory rec n h =
     none-memory (replicate n 0 ++ drop (0 + length (replicate n 0)) rec)
@@ -89,12 +89,12 @@ zeros-memory rec n h =
 abbrev puts : List ℕ → ℕ → List ℕ → List ℕ → List ℕ
 puts rec j a b = splice (splice rec (idsAt + j * idSize) a) (secondsAt + j * secondSize) b
 
-module _ (rec : List ℕ) (j n : ℕ) (a b : List ℕ) (long : recordSize ≤ length rec) (la : length a ≡ n * idSize) (lb : length b ≡ n * secondSize) (few : j + n ≤ mostRemembered) where
-  ids-behind : Behind rec (splice rec (idsAt + j * idSize) a)
-  ids-behind = behind-splice rec (idsAt + j * idSize) a (omega arith) (omega arith)
+module _ (rec : List ℕ) (j n : ℕ) (a b : List ℕ) (long : shareSize ≤ length rec) (la : length a ≡ n * idSize) (lb : length b ≡ n * secondSize) (few : j + n ≤ mostRemembered) where
+  ids-behind : Behind idsAt rec (splice rec (idsAt + j * idSize) a)
+  ids-behind = behind-splice idsAt rec (idsAt + j * idSize) a (omega arith) (omega arith)
 
-  puts-behind : Behind rec (puts rec j a b)
-  puts-behind = behind-then ids-behind (behind-splice (splice rec (idsAt + j * idSize) a) (secondsAt + j * secondSize) b (omega arith) (omega (arith, ids-behind .long)))
+  puts-behind : Behind idsAt rec (puts rec j a b)
+  puts-behind = behind-then ids-behind (behind-splice idsAt (splice rec (idsAt + j * idSize) a) (secondsAt + j * secondSize) b (omega arith) (omega (arith, ids-behind .long)))
 
   -- the ids are as they are before the seconds are put, and the seconds are put over what was there
   id-early : (p m : ℕ) → p + m ≤ secondsAt → part (puts rec j a b) p m ≡ part (splice rec (idsAt + j * idSize) a) p m
@@ -132,8 +132,8 @@ module _ (rec : List ℕ) (j n : ℕ) (a b : List ℕ) (long : recordSize ≤ le
       ∙ part-within (splice rec (idsAt + j * idSize) a) (secondsAt + j * secondSize) b (omega (arith, ids-behind .long)) (i * secondSize) secondSize (omega arith)
 
 -- one is put
-module _ (rec : List ℕ) (k : ℕ) (f : Finished) (long : recordSize ≤ length rec) (few : k < mostRemembered) where
-  with-behind : Behind rec (withFinished rec k f)
+module _ (rec : List ℕ) (k : ℕ) (f : Finished) (long : shareSize ≤ length rec) (few : k < mostRemembered) where
+  with-behind : Behind idsAt rec (withFinished rec k f)
   unfolding withFinished
   with-behind = puts-behind rec k 1 (littleBytes idSize (f .id)) (littleBytes secondSize (f .second)) long (length-little idSize (f .id)) (length-little secondSize (f .second)) (omega arith)
 
@@ -160,14 +160,14 @@ module _ (rec : List ℕ) (k : ℕ) (f : Finished) (long : recordSize ≤ length
       λ i. record { id = x i; second = y i }
 
 -- some are moved
-module _ (rec : List ℕ) (j k n : ℕ) (long : recordSize ≤ length rec) (down : j ≤ k) (few : k + n ≤ mostRemembered) where
+module _ (rec : List ℕ) (j k n : ℕ) (long : shareSize ≤ length rec) (down : j ≤ k) (few : k + n ≤ mostRemembered) where
   ids-length : length (part rec (idsAt + k * idSize) (n * idSize)) ≡ n * idSize
   ids-length = length-part rec (idsAt + k * idSize) (n * idSize) (omega arith)
 
   seconds-length : length (part rec (secondsAt + k * secondSize) (n * secondSize)) ≡ n * secondSize
   seconds-length = length-part rec (secondsAt + k * secondSize) (n * secondSize) (omega arith)
 
-  pub moved-behind : Behind rec (movedTo rec j k n)
+  pub moved-behind : Behind idsAt rec (movedTo rec j k n)
   unfolding movedTo
   moved-behind = puts-behind rec j n (part rec (idsAt + k * idSize) (n * idSize)) (part rec (secondsAt + k * secondSize) (n * secondSize)) long ids-length seconds-length (omega arith)
 
@@ -191,10 +191,10 @@ module _ (rec : List ℕ) (j k n : ℕ) (long : recordSize ≤ length rec) (down
       ∙ ap (λ (p : ℕ). part rec p secondSize) eb)
 
 -- the count is saved
-module _ (rec : List ℕ) (n : ℕ) (long : recordSize ≤ length rec) where
-  pub saved-behind : Behind rec (withCount rec n)
+module _ (rec : List ℕ) (n : ℕ) (long : shareSize ≤ length rec) where
+  pub saved-behind : Behind idsAt rec (withCount rec n)
   unfolding withCount
-  saved-behind = behind-splice rec countAt (n ∷ []) (omega arith) (omega arith)
+  saved-behind = behind-splice idsAt rec countAt (n ∷ []) (omega arith) (omega arith)
 
   pub saved-same : (i : ℕ) → i < mostRemembered → finishedAt (withCount rec n) i ≡ finishedAt rec i
   unfolding withCount
@@ -214,30 +214,30 @@ module _ (rec : List ℕ) (n : ℕ) (long : recordSize ≤ length rec) where
 
 module _ (f : Finished) where
   -- f is put after the first n of a record
-  last-memory : (x : List ℕ) (n : ℕ) → recordSize ≤ length x → n < mostRemembered → f .id < 4294967296 → f .second < 18446744073709551616
+  last-memory : (x : List ℕ) (n : ℕ) → shareSize ≤ length x → n < mostRemembered → f .id < 4294967296 → f .second < 18446744073709551616
       → memoryOf (withCount (withFinished x n f) (n + 1)) ≡ series (finishedAt x) 0 n ++ (f ∷ [])
   last-memory x n long few hi hs =
       let y : List ℕ = withFinished x n f in
-      let ly : recordSize ≤ length (withFinished x n f) = omega (arith, with-behind x n f long few .long) in
+      let ly : shareSize ≤ length (withFinished x n f) = omega (arith, with-behind x n f long few .long) in
       memory-is (withCount y (n + 1)) (n + 1) (finishedAt y) (saved-count y (n + 1) ly (omega arith)) (λ k h. saved-same y (n + 1) ly k (omega arith))
       ∙ series-more (finishedAt y) n
       ∙ ap (λ (z : Memory). z ++ (finishedAt y n ∷ [])) (series-same (finishedAt y) (finishedAt x) n blank (with-other x n f long few))
       ∙ ap (λ (z : Finished). series (finishedAt x) 0 n ++ (z ∷ [])) (with-same x n f long few hi hs)
 
-  last-behind : (x : List ℕ) (n m : ℕ) → recordSize ≤ length x → n < mostRemembered → Behind x (withCount (withFinished x n f) m)
+  last-behind : (x : List ℕ) (n m : ℕ) → shareSize ≤ length x → n < mostRemembered → Behind idsAt x (withCount (withFinished x n f) m)
   last-behind x n m long few = behind-then (with-behind x n f long few) (saved-behind (withFinished x n f) m (omega (arith, with-behind x n f long few .long)))
 
-module _ (rec : List ℕ) (long : recordSize ≤ length rec) (f : Finished) where
-  pub remembered-behind : Behind rec (rememberedIn rec f)
+module _ (rec : List ℕ) (long : shareSize ≤ length rec) (f : Finished) where
+  pub remembered-behind : Behind idsAt rec (rememberedIn rec f)
   unfolding rememberedIn
   remembered-behind = go (ltb (rememberedCount rec) mostRemembered) refl
     where
       go : (b : Bool) → ltb (rememberedCount rec) mostRemembered ≡ b
-          → Behind rec (cond b (withCount (withFinished rec (rememberedCount rec) f) (rememberedCount rec + 1)) (withCount (withFinished (movedTo rec 0 1 63) 63 f) mostRemembered))
+          → Behind idsAt rec (cond b (withCount (withFinished rec (rememberedCount rec) f) (rememberedCount rec + 1)) (withCount (withFinished (movedTo rec 0 1 15) 15 f) mostRemembered))
       go true e = last-behind f rec (rememberedCount rec) (rememberedCount rec + 1) long (ltb-true (rememberedCount rec) mostRemembered e)
       go false e =
-          let m : Behind rec (movedTo rec 0 1 63) = moved-behind rec 0 1 63 long (omega arith) (omega arith) in
-          behind-then m (last-behind f (movedTo rec 0 1 63) 63 mostRemembered (omega arith) (omega arith))
+          let m : Behind idsAt rec (movedTo rec 0 1 15) = moved-behind rec 0 1 15 long (omega arith) (omega arith) in
+          behind-then m (last-behind f (movedTo rec 0 1 15) 15 mostRemembered (omega arith) (omega arith))
 
   -- all but the first of n + 1, moved down
   all-moved : (n : ℕ) → n < mostRemembered → n + 1 ≡ rememberedCount rec → series (finishedAt (movedTo rec 0 1 n)) 0 n ≡ drop 1 (memoryOf rec)
@@ -260,11 +260,11 @@ module _ (rec : List ℕ) (long : recordSize ≤ length rec) (f : Finished) wher
   remembered-memory hi hs = rw memory-length (go (ltb (rememberedCount rec) mostRemembered) refl)
     where
       go : (b : Bool) → ltb (rememberedCount rec) mostRemembered ≡ b
-          → memoryOf (cond b (withCount (withFinished rec (rememberedCount rec) f) (rememberedCount rec + 1)) (withCount (withFinished (movedTo rec 0 1 63) 63 f) mostRemembered))
+          → memoryOf (cond b (withCount (withFinished rec (rememberedCount rec) f) (rememberedCount rec + 1)) (withCount (withFinished (movedTo rec 0 1 15) 15 f) mostRemembered))
           ≡ cond b (memoryOf rec) (drop 1 (memoryOf rec)) ++ (f ∷ [])
       go true e = last-memory f rec (rememberedCount rec) long (ltb-true (rememberedCount rec) mostRemembered e) hi hs
       go false e =
-          let m : Behind rec (movedTo rec 0 1 63) = moved-behind rec 0 1 63 long (omega arith) (omega arith) in
+          let m : Behind idsAt rec (movedTo rec 0 1 15) = moved-behind rec 0 1 15 long (omega arith) (omega arith) in
           let g : mostRemembered ≤ rememberedCount rec = ltb-false (rememberedCount rec) mostRemembered e in
-          let c : 63 + 1 ≡ rememberedCount rec = omega (arith, count-most rec) in
-          last-memory f (movedTo rec 0 1 63) 63 (omega arith) (omega arith) hi hs ∙ ap (λ (z : Memory). z ++ (f ∷ [])) (all-moved 63 (omega arith) c)
+          let c : 15 + 1 ≡ rememberedCount rec = omega (arith, count-most rec) in
+          last-memory f (movedTo rec 0 1 15) 15 (omega arith) (omega arith) hi hs ∙ ap (λ (z : Memory). z ++ (f ∷ [])) (all-moved 15 (omega arith) c)

@@ -5,20 +5,18 @@ use mathlib.Core.List.{List, []}
 use mathlib.Core.Option.{none, some}
 use Prim.Native.Nat.{ℕ, _+_, _≤_, _<_}
 use native.Mathlib.Omega.{arith}
-use lib.Dec.{eqb, ltb, leb}
+use lib.Dec.{eqb, ltb}
 use lib.ListN.{length, getD, set}
-use borrow.Author.Tests.{lt-ltb, le-ltb, ltb-true, ltb-false, le-leb, leb-true, leb-false}
+use borrow.Author.Tests.{lt-ltb, le-ltb, ltb-true, ltb-false, le-leb}
 use Rattle.wire.specs.Parts.{same}
-use Rattle.reassembly.specs.Sizes.{messageSize, recordSize}
+use Rattle.reassembly.specs.Sizes.{messageSize, shareSize}
 use Rattle.reassembly.specs.declared.Head.{Head}
 use Rattle.reassembly.specs.declared.Label.{Label}
 use Rattle.reassembly.specs.Store.{Piece, first, follow, idOf, pieceBytes, Message, Slots, isHeld, findId, findFree, slotOf, messageOr, plus, badLength, badNumber, repeats, clashes, slotsRefuse, answer, slotsStep}
 use Rattle.reassembly.specs.Record.{headAt, entryAt, outside, pieceAt, cleared}
 use Rattle.reassembly.specs.Slots.{firstFrom, isOpenAs, isFree}
-use Rattle.reassembly.specs.Memory.{remembers}
-use Rattle.reassembly.specs.Remembered.{memoryOf}
 use Rattle.reassembly.specs.Judge.{sameLabel, again, misfits, grownBy, isComplete, newHead}
-use Rattle.reassembly.specs.Calls.{lent, after, bare, keptRec, keptRoom, putIn, compared, added, openedIn, openedNow}
+use Rattle.reassembly.specs.Calls.{lent, after, bare, keptRec, keptRoom, putIn, compared, added, openedIn}
 use Rattle.reassembly.specs.Stands.{tableAt, messageWith, slotAt, slotsOf, Fine, SlotsMade, labelOf}
 use Rattle.wire.proofs.Series.{length-series, getD-series}
 use Rattle.reassembly.proofs.Searches.{isNone, hasId, found-is, vacant-is, first-passes, free-none}
@@ -65,13 +63,13 @@ module _ (rec room : List ℕ) where
       go true = refl
       go false = refl
 
-  pub found-in : (id : ℕ) → findId id (slotsOf rec room) ≡ firstFrom (isOpenAs rec id) 0 16
+  pub found-in : (id : ℕ) → findId id (slotsOf rec room) ≡ firstFrom (isOpenAs rec id) 0 4
   unfolding slotsOf
-  found-in id = found-is id (slotAt rec room) (isOpenAs rec id) (open-test id) 16
+  found-in id = found-is id (slotAt rec room) (isOpenAs rec id) (open-test id) 4
 
-  pub sixteen : length (slotsOf rec room) ≡ 16
+  pub four-slots : length (slotsOf rec room) ≡ 4
   unfolding slotsOf
-  sixteen = length-series (slotAt rec room) 0 16
+  four-slots = length-series (slotAt rec room) 0 4
 
 module _ (rec room out : List ℕ) (made : SlotsMade rec room) (p : Piece) (second : ℕ) (gl : badLength p ≡ false) (gn : badNumber p ≡ false) (fit : PieceInWidth p second) where
   abbrev l : Label
@@ -83,11 +81,11 @@ module _ (rec room out : List ℕ) (made : SlotsMade rec room) (p : Piece) (seco
   abbrev s : Slots
   s = slotsOf rec room
 
-  in-all : (i : ℕ) → i < 16 → i < length s
-  in-all i hi = omega (arith, sixteen rec room)
+  in-all : (i : ℕ) → i < 4 → i < length s
+  in-all i hi = omega (arith, four-slots rec room)
 
   -- a piece of the open message of slot i
-  module _ (i : ℕ) (hi : i < 16) (used : isFree rec i ≡ false) where
+  module _ (i : ℕ) (hi : i < 4) (used : isFree rec i ≡ false) where
     abbrev h : Head
     h = headAt rec i
 
@@ -148,14 +146,14 @@ module _ (rec room out : List ℕ) (made : SlotsMade rec room) (p : Piece) (seco
         go true e = rw e (fitting (misfits h l) (held-as true e) refl)
 
   -- a piece of a message that is not open, for the free slot i
-  module _ (i : ℕ) (hi : i < 16) where
+  module _ (i : ℕ) (hi : i < 4) where
     abbrev h₀ : Head
     h₀ = newHead l second
 
     opened-agrees : SlotsAgree out (openedIn (lent rec room out) i l second v) (answer (length out) s p i (messageOr none (idOf p) second))
     opened-agrees = rw (fresh-is rec room i (made .record-long) hi p second, a) in-slot
       where
-        long₁ : recordSize ≤ length (cleared rec i)
+        long₁ : shareSize ≤ length (cleared rec i)
         long₁ = omega (arith, length-cleared rec (made .record-long) i hi, made .record-long)
 
         f₀ : Fine h₀ (cleared rec i) room i
@@ -177,16 +175,16 @@ module _ (rec room out : List ℕ) (made : SlotsMade rec room) (p : Piece) (seco
         in-slot : SlotsAgree out (openedIn (lent rec room out) i l second v) (record { number = 0; out = none; slots = set s i (some (plus (messageWith h₀ (cleared rec i) room i) p)) })
         in-slot = unfold openedIn newHead in k
 
-  found : findId (idOf p) s ≡ firstFrom (isOpenAs rec (l .id)) 0 16
+  found : findId (idOf p) s ≡ firstFrom (isOpenAs rec (l .id)) 0 4
   found = ap (λ (z : ℕ). findId z s) (sym (label-id p)) ∙ found-in rec room (l .id)
 
-  vacant : findFree s ≡ firstFrom (isFree rec) 0 16
+  pub vacant : findFree s ≡ firstFrom (isFree rec) 0 4
   unfolding slotsOf
-  vacant = vacant-is (slotAt rec room) (isFree rec) (free-test rec room) 16
+  vacant = vacant-is (slotAt rec room) (isFree rec) (free-test rec room) 4
 
-  at-slot : (k : ℕ) → k < 16 → getD s k none ≡ slotAt rec room k
+  at-slot : (k : ℕ) → k < 4 → getD s k none ≡ slotAt rec room k
   unfolding slotsOf
-  at-slot k hk = getD-series (slotAt rec room) 16 k none hk
+  at-slot k hk = getD-series (slotAt rec room) 4 k none hk
 
   -- the slot that was found is in use
   used-slot : (k : ℕ) → isOpenAs rec (l .id) k ≡ true → isFree rec k ≡ false
@@ -197,54 +195,50 @@ module _ (rec room out : List ℕ) (made : SlotsMade rec room) (p : Piece) (seco
       go true q t = absurd (false≢true t)
       go false q t = q
 
-  step-open : (k : ℕ) → firstFrom (isOpenAs rec (l .id)) 0 16 ≡ k → k < 16 → isFree rec k ≡ false
+  step-open : (k : ℕ) → firstFrom (isOpenAs rec (l .id)) 0 4 ≡ k → k < 4 → isFree rec k ≡ false
       → slotsStep (length out) s p second ≡ answer (length out) s p k (messageWith (headAt rec k) rec room k)
   unfolding slotsStep slotOf messageOr
   step-open k e hk u =
       let q : findId (idOf p) s ≡ k = found ∙ e in
       let t : getD s k none ≡ some (messageWith (headAt rec k) rec room k) = at-slot k hk ∙ slot-used k u in
-      rw (q, sixteen rec room, lt-ltb k 16 hk, t) refl
+      rw (q, four-slots rec room, lt-ltb k 4 hk, t) refl
     where
       slot-used : (k : ℕ) → isFree rec k ≡ false → slotAt rec room k ≡ some (messageWith (headAt rec k) rec room k)
       slot-used k u = unfold slotAt in rw u refl
 
-  step-new : 16 ≤ firstFrom (isOpenAs rec (l .id)) 0 16
-      → slotsStep (length out) s p second ≡ answer (length out) s p (firstFrom (isFree rec) 0 16) (messageOr none (idOf p) second)
+  step-new : 4 ≤ firstFrom (isOpenAs rec (l .id)) 0 4
+      → slotsStep (length out) s p second ≡ answer (length out) s p (firstFrom (isFree rec) 0 4) (messageOr none (idOf p) second)
   unfolding slotsStep slotOf
   step-new n =
-      let q : ltb (findId (idOf p) s) (length s) ≡ false = le-ltb (findId (idOf p) s) (length s) (omega (arith, found, sixteen rec room)) in
+      let q : ltb (findId (idOf p) s) (length s) ≡ false = le-ltb (findId (idOf p) s) (length s) (omega (arith, found, four-slots rec room)) in
       rw (q, free-none s, vacant) refl
 
-  step-full : (k : ℕ) → 16 ≤ k → answer (length out) s p k (messageOr none (idOf p) second) ≡ slotsRefuse 52 s
+  step-full : (k : ℕ) → 4 ≤ k → answer (length out) s p k (messageOr none (idOf p) second) ≡ slotsRefuse 52 s
   unfolding answer
   step-full k n =
-      let zero-in : 0 < 16 = omega arith in
+      let zero-in : 0 < 4 = omega arith in
       let f₀ : Fine (newHead l second) (cleared rec 0) room 0 = fresh-fine rec room 0 (made .record-long) zero-in l second (fit .id) (fit .second-fits) in
       let free₀ : isHeld (getD (tableAt (cleared rec 0) room 0) (l .number) []) ≡ false = none-held rec room 0 (made .record-long) zero-in (l .number) in
       let e : messageOr none (idOf p) second ≡ messageWith (newHead l second) (cleared rec 0) room 0 = fresh-is rec room 0 (made .record-long) zero-in p second in
       let r : repeats (messageOr none (idOf p) second) p ≡ false = ap (λ (z : Message). repeats z p) e ∙ repeats-free (newHead l second) (cleared rec 0) room 0 f₀ (made .room-long) zero-in p gn free₀ in
       let c : clashes (messageOr none (idOf p) second) p ≡ false
       = ap (λ (z : Message). clashes z p) e ∙ clashes-free (newHead l second) (cleared rec 0) room 0 f₀ (made .room-long) zero-in p gn free₀ ∙ fresh-fits l second in
-      rw (r, c, le-leb (length s) k (omega (arith, sixteen rec room))) refl
+      rw (r, c, le-leb (length s) k (omega (arith, four-slots rec room))) refl
 
   -- a piece of an open message
-  pub added-slots : ltb (firstFrom (isOpenAs rec (l .id)) 0 16) 16 ≡ true
-      → SlotsAgree out (added (lent rec room out) (firstFrom (isOpenAs rec (l .id)) 0 16) l v) (slotsStep (length out) s p second)
+  pub added-slots : ltb (firstFrom (isOpenAs rec (l .id)) 0 4) 4 ≡ true
+      → SlotsAgree out (added (lent rec room out) (firstFrom (isOpenAs rec (l .id)) 0 4) l v) (slotsStep (length out) s p second)
   added-slots e =
-      let hk : firstFrom (isOpenAs rec (l .id)) 0 16 < 16 = ltb-true (firstFrom (isOpenAs rec (l .id)) 0 16) 16 e in
-      let u : isFree rec (firstFrom (isOpenAs rec (l .id)) 0 16) ≡ false
-      = used-slot (firstFrom (isOpenAs rec (l .id)) 0 16) (first-passes (isOpenAs rec (l .id)) 0 16 (omega arith)) in
-      rw (step-open (firstFrom (isOpenAs rec (l .id)) 0 16) refl hk u) (added-agrees (firstFrom (isOpenAs rec (l .id)) 0 16) hk u)
+      let hk : firstFrom (isOpenAs rec (l .id)) 0 4 < 4 = ltb-true (firstFrom (isOpenAs rec (l .id)) 0 4) 4 e in
+      let u : isFree rec (firstFrom (isOpenAs rec (l .id)) 0 4) ≡ false
+      = used-slot (firstFrom (isOpenAs rec (l .id)) 0 4) (first-passes (isOpenAs rec (l .id)) 0 4 (omega arith)) in
+      rw (step-open (firstFrom (isOpenAs rec (l .id)) 0 4) refl hk u) (added-agrees (firstFrom (isOpenAs rec (l .id)) 0 4) hk u)
 
-  -- a piece of a message that is not open
-  pub opened-slots : ltb (firstFrom (isOpenAs rec (l .id)) 0 16) 16 ≡ false → remembers (memoryOf rec) (l .id) ≡ false
-      → SlotsAgree out (openedNow (lent rec room out) l second v) (slotsStep (length out) s p second)
-  unfolding openedNow
-  opened-slots e strange = go (leb 16 (firstFrom (isFree rec) 0 16)) refl
-    where
-      n : 16 ≤ firstFrom (isOpenAs rec (l .id)) 0 16
-      n = ltb-false (firstFrom (isOpenAs rec (l .id)) 0 16) 16 e
+  -- a piece of a message that is not open: 52 where no slot is free,
+  pub full-slots : ltb (firstFrom (isOpenAs rec (l .id)) 0 4) 4 ≡ false → 4 ≤ firstFrom (isFree rec) 0 4 → slotsStep (length out) s p second ≡ slotsRefuse 52 s
+  full-slots e q = step-new (ltb-false (firstFrom (isOpenAs rec (l .id)) 0 4) 4 e) ∙ step-full (firstFrom (isFree rec) 0 4) q
 
-      go : (c : Bool) → leb 16 (firstFrom (isFree rec) 0 16) ≡ c → SlotsAgree out (openedNow (lent rec room out) l second v) (slotsStep (length out) s p second)
-      go true q = rw (strange, q, step-new n, step-full (firstFrom (isFree rec) 0 16) (leb-true 16 (firstFrom (isFree rec) 0 16) q)) (refusal rec room out 52 made)
-      go false q = rw (strange, q, step-new n) (opened-agrees (firstFrom (isFree rec) 0 16) (leb-false 16 (firstFrom (isFree rec) 0 16) q))
+  -- else it is kept in the first that is
+  pub opened-slots : ltb (firstFrom (isOpenAs rec (l .id)) 0 4) 4 ≡ false → firstFrom (isFree rec) 0 4 < 4
+      → SlotsAgree out (openedIn (lent rec room out) (firstFrom (isFree rec) 0 4) l second v) (slotsStep (length out) s p second)
+  opened-slots e q = rw (step-new (ltb-false (firstFrom (isOpenAs rec (l .id)) 0 4) 4 e)) (opened-agrees (firstFrom (isFree rec) 0 4) q)

@@ -36,7 +36,7 @@ all-same (suc n) zero d = refl
 all-same (suc n) (suc i) d = all-same n i d
 
 pub empty-at : (k : ℕ) → getD empty k none ≡ none
-empty-at k = all-same 16 k none
+empty-at k = all-same 4 k none
 
 pub none≢some : (o : Option Message) (m : Message) → o ≡ none → o ≡ some m → ⊥
 none≢some o m p q = let z : _≡_ {A = ℕ} 0 1 = cc in omega arith

@@ -2,9 +2,9 @@
 use mathlib.Core.Path.{_≡_, refl, sym, ap, _∙_}
 use mathlib.Core.Logic.{_≢_}
 use mathlib.Core.Bool.{Bool, true, false, cond, not, _&&_, false≢true, true≢false}
-use mathlib.Core.List.{List, _∷_, map}
+use mathlib.Core.List.{List, [], _∷_, _++_, map}
 use mathlib.Core.Option.{Option, none, some}
-use Prim.Native.Nat.{ℕ, zero, suc, _+_, _*_, _≤_, _<_}
+use Prim.Native.Nat.{ℕ, zero, suc, _+_, _-_, _*_, _≤_, _<_}
 use native.Mathlib.Omega.{arith}
 use native.Mathlib.Decide.{ℕ-discrete}
 use lib.Dec.{eqb, ltb, leb}
@@ -14,14 +14,21 @@ use Rattle.wire.specs.Parts.{part, splice}
 use Rattle.wire.proofs.Parts.{part-within, length-splice}
 use Rattle.wire.proofs.Slices.{part-alike}
 use Rattle.wire.specs.Series.{series}
-use Rattle.reassembly.specs.Sizes.{roomSize, headSize, recordSize}
+use Rattle.reassembly.specs.Sizes.{shareRoom, headSize, openAt, shareSize}
+use Rattle.reassembly.specs.Ages.{longAgo}
+use Rattle.reassembly.specs.Neighbours.{droppedOf}
+use Rattle.reassembly.specs.Summary.{openCount, lowered}
 use Rattle.reassembly.specs.Store.{Message, Slots, empty, sweptOne, slotsSweep}
 use Rattle.reassembly.specs.Record.{headOf, headAt, withHead}
 use Rattle.reassembly.specs.Slots.{isFree}
 use Rattle.reassembly.specs.Judge.{noHead, isOld}
 use Rattle.reassembly.specs.Calls.{sweptAt, sweptTo}
 use Rattle.reassembly.specs.Stands.{messageWith, slotAt, slotsOf, SlotsMade}
-use Rattle.wire.proofs.Series.{series-same}
+use Rattle.wire.proofs.Series.{series-same, series-more}
+use native.Mathlib.Numerals.{add-one}
+use Rattle.reassembly.proofs.Fronts.{Behind, front-slot, front-made}
+use Rattle.reassembly.proofs.Summary.{open-behind, open-same, before-open}
+use Rattle.reassembly.proofs.MemoryStays.{behind-head}
 use Rattle.reassembly.proofs.Written.{length-head}
 use Rattle.reassembly.proofs.Others.{Others, others-head, slot-same, made-with, freed-slot, freed-free}
 
@@ -48,45 +55,59 @@ young-slot second rec room i e = go (eqb (headAt rec i .count) 0) (leb (headAt r
 
 -- what one slot swept does, with any room
 record One (second : ℕ) (rec room rec′ : List ℕ) (i : ℕ) : Type 0 where
-  long : recordSize ≤ length rec′
+  long : shareSize ≤ length rec′
   here : slotAt rec′ room i ≡ sweptOne second (slotAt rec room i)
-  there : (j : ℕ) → j < 16 → j ≢ i → slotAt rec′ room j ≡ slotAt rec room j
+  there : (j : ℕ) → j < 4 → j ≢ i → slotAt rec′ room j ≡ slotAt rec room j
 
-one-swept : (second : ℕ) (rec room : List ℕ) (i : ℕ) → i < 16 → recordSize ≤ length rec → One second rec room (sweptAt second rec i) i
+one-swept : (second : ℕ) (rec room : List ℕ) (i : ℕ) → i < 4 → shareSize ≤ length rec → One second rec room (sweptAt second rec i) i
 unfolding sweptAt
 one-swept second rec room i hi long = go (isOld second (headAt rec i)) refl
   where
     o : Others rec room (withHead rec i noHead) room i
     o = others-head rec room i noHead long hi
 
-    go : (b : Bool) → isOld second (headAt rec i) ≡ b → One second rec room (cond (isOld second (headAt rec i)) (withHead rec i noHead) rec) i
+    lh : shareSize ≤ length (withHead rec i noHead)
+    lh = omega (arith, length-head rec long i hi noHead)
+
+    -- the summary stands behind the slots
+    b : Behind openAt (withHead rec i noHead) (lowered (withHead rec i noHead))
+    b = open-behind (withHead rec i noHead) _ lh
+
+    same : (j : ℕ) → j < 4 → slotAt (lowered (withHead rec i noHead)) room j ≡ slotAt (withHead rec i noHead) room j
+    same j hj = front-slot openAt (withHead rec i noHead) (lowered (withHead rec i noHead)) b room (omega arith) j hj
+
+    go : (b : Bool) → isOld second (headAt rec i) ≡ b → One second rec room (cond (isOld second (headAt rec i)) (lowered (withHead rec i noHead)) rec) i
     go true e =
         rw e
         (record {
-          long = omega (arith, length-head rec long i hi noHead);
-          here = freed-slot rec room i long hi ∙ sym (old-slot second rec room i e);
-          there = λ j hj q. slot-same rec room (withHead rec i noHead) room j (λ k hk. o .entries j k hj q hk) refl (o .heads j hj q);
+          long = omega (arith, b .long, lh);
+          here = same i hi ∙ freed-slot rec room i long hi ∙ sym (old-slot second rec room i e);
+          there = λ j hj q. same j hj ∙ slot-same rec room (withHead rec i noHead) room j (λ k hk. o .entries j k hj q hk) refl (o .heads j hj q);
         })
     go false e = rw e (record { long = long; here = sym (young-slot second rec room i e); there = λ j hj q. refl })
 
 -- it leaves what a call may be lent again
-one-made : (second : ℕ) (rec room : List ℕ) (i : ℕ) → i < 16 → SlotsMade rec room → SlotsMade (sweptAt second rec i) room
+one-made : (second : ℕ) (rec room : List ℕ) (i : ℕ) → i < 4 → SlotsMade rec room → SlotsMade (sweptAt second rec i) room
 unfolding sweptAt
 one-made second rec room i hi m = go (isOld second (headAt rec i))
   where
-    go : (b : Bool) → SlotsMade (cond b (withHead rec i noHead) rec) room
+    lh : shareSize ≤ length (withHead rec i noHead)
+    lh = omega (arith, length-head rec (m .record-long) i hi noHead, m .record-long)
+
+    go : (b : Bool) → SlotsMade (cond b (lowered (withHead rec i noHead)) rec) room
     go true =
-        made-with rec room (withHead rec i noHead) room i m (omega (arith, length-head rec (m .record-long) i hi noHead, m .record-long)) (m .room-long) hi
+        front-made openAt (withHead rec i noHead) (lowered (withHead rec i noHead)) (open-behind (withHead rec i noHead) _ lh) room (omega arith)
+        (made-with rec room (withHead rec i noHead) room i m lh (m .room-long) hi
         (others-head rec room i noHead (m .record-long) hi)
-        (λ q. absurd (true≢false (sym (freed-free rec i (m .record-long) hi) ∙ q)))
+        (λ q. absurd (true≢false (sym (freed-free rec i (m .record-long) hi) ∙ q))))
     go false = m
 
 -- the first n slots swept
 record Upto (second : ℕ) (rec room rec′ : List ℕ) (n : ℕ) : Type 0 where
-  long : recordSize ≤ length rec′
-  slots : (j : ℕ) → j < 16 → slotAt rec′ room j ≡ cond (ltb j n) (sweptOne second (slotAt rec room j)) (slotAt rec room j)
+  long : shareSize ≤ length rec′
+  slots : (j : ℕ) → j < 4 → slotAt rec′ room j ≡ cond (ltb j n) (sweptOne second (slotAt rec room j)) (slotAt rec room j)
 
-swept-upto : (second : ℕ) (rec room : List ℕ) → recordSize ≤ length rec → (n : ℕ) → n ≤ 16 → Upto second rec room (sweptTo second rec n) n
+swept-upto : (second : ℕ) (rec room : List ℕ) → shareSize ≤ length rec → (n : ℕ) → n ≤ 4 → Upto second rec room (sweptTo second rec n) n
 swept-upto second rec room long zero h = record { long = long; slots = λ j hj. rw (le-ltb j 0 (omega arith)) refl }
 swept-upto second rec room long (suc n) h = more (swept-upto second rec room long n (omega arith))
   where
@@ -96,7 +117,7 @@ swept-upto second rec room long (suc n) h = more (swept-upto second rec room lon
         w : One second (sweptTo second rec n) room (sweptAt second (sweptTo second rec n) n) n
         w = one-swept second (sweptTo second rec n) room n (omega arith) (u .long)
 
-        at : (j : ℕ) → j < 16 → Dec (j ≡ n) → (b : Bool) → ltb j n ≡ b
+        at : (j : ℕ) → j < 4 → Dec (j ≡ n) → (b : Bool) → ltb j n ≡ b
             → slotAt (sweptAt second (sweptTo second rec n) n) room j ≡ cond (ltb j (suc n)) (sweptOne second (slotAt rec room j)) (slotAt rec room j)
         at j hj (yes q) b e =
             rw (q, lt-ltb n (suc n) (omega arith))
@@ -109,7 +130,7 @@ swept-upto second rec room long (suc n) h = more (swept-upto second rec room lon
             let ne : j ≡ n → ⊥ = q in
             rw (le-ltb j (suc n) (omega arith)) (w .there j hj q ∙ u .slots j hj ∙ rw e refl)
 
-upto-made : (second : ℕ) (rec room : List ℕ) → SlotsMade rec room → (n : ℕ) → n ≤ 16 → SlotsMade (sweptTo second rec n) room
+upto-made : (second : ℕ) (rec room : List ℕ) → SlotsMade rec room → (n : ℕ) → n ≤ 4 → SlotsMade (sweptTo second rec n) room
 upto-made second rec room m zero h = m
 upto-made second rec room m (suc n) h = one-made second (sweptTo second rec n) room n (omega arith) (upto-made second rec room m n (omega arith))
 
@@ -118,15 +139,66 @@ map-series g f i zero = refl
 map-series g f i (suc n) = ap {B = Slots} (λ (z : Slots). g (f i) ∷ z) (map-series g f (i + 1) n)
 
 -- all slots swept are the slots that the store sweeps
-pub swept-slots : (second : ℕ) (rec room : List ℕ) → recordSize ≤ length rec → slotsOf (sweptTo second rec 16) room ≡ slotsSweep second (slotsOf rec room)
+pub swept-slots : (second : ℕ) (rec room : List ℕ) → shareSize ≤ length rec → slotsOf (sweptTo second rec 4) room ≡ slotsSweep second (slotsOf rec room)
 unfolding slotsOf slotsSweep
 swept-slots second rec room long =
-    let u : Upto second rec room (sweptTo second rec 16) 16 = swept-upto second rec room long 16 (omega arith) in
-    series-same (slotAt (sweptTo second rec 16) room) (λ k. sweptOne second (slotAt rec room k)) 16 none (λ k hk. u .slots k hk ∙ rw (lt-ltb k 16 hk) refl)
-    ∙ sym (map-series (sweptOne second) (slotAt rec room) 0 16)
+    let u : Upto second rec room (sweptTo second rec 4) 4 = swept-upto second rec room long 4 (omega arith) in
+    series-same (slotAt (sweptTo second rec 4) room) (λ k. sweptOne second (slotAt rec room k)) 4 none (λ k hk. u .slots k hk ∙ rw (lt-ltb k 4 hk) refl)
+    ∙ sym (map-series (sweptOne second) (slotAt rec room) 0 4)
 
-pub swept-made : (second : ℕ) (rec room : List ℕ) → SlotsMade rec room → SlotsMade (sweptTo second rec 16) room
-swept-made second rec room m = upto-made second rec room m 16 (omega arith)
+-- ---- the summary is less by what was dropped
+
+-- one where a sweep drops what stands in a slot
+abbrev oneDropped : ℕ → Option Message → ℕ
+oneDropped second none = 0
+oneDropped second (some m) = cond (longAgo (m .opened) second) 1 0
+
+dropped-more : (second : ℕ) (s : Slots) (o : Option Message) → droppedOf second (s ++ (o ∷ [])) ≡ droppedOf second s + oneDropped second o
+dropped-more second [] none = refl
+dropped-more second [] (some m) = omega arith
+dropped-more second (none ∷ s) o = dropped-more second s o
+dropped-more second (some m ∷ s) o =
+    let ih : droppedOf second (s ++ (o ∷ [])) ≡ droppedOf second s + oneDropped second o = dropped-more second s o in
+    omega arith
+
+old-one : (second : ℕ) (rec room : List ℕ) (i : ℕ) → cond (isOld second (headAt rec i)) 1 0 ≡ oneDropped second (slotAt rec room i)
+unfolding isOld slotAt isFree messageWith
+old-one second rec room i = go (eqb (headAt rec i .count) 0)
+  where
+    go : (b : Bool) → cond (not b && leb (headAt rec i .opened + 30) second) 1 0 ≡ oneDropped second (cond b none (some (messageWith (headAt rec i) rec room i)))
+    go true = refl
+    go false = refl
+
+one-count : (second : ℕ) (rec : List ℕ) (i : ℕ) → i < 4 → shareSize ≤ length rec → openCount (sweptAt second rec i) ≡ openCount rec - cond (isOld second (headAt rec i)) 1 0
+unfolding sweptAt
+one-count second rec i hi long = go (isOld second (headAt rec i))
+  where
+    go : (b : Bool) → openCount (cond b (lowered (withHead rec i noHead)) rec) ≡ openCount rec - cond b 1 0
+    go true =
+        open-same (withHead rec i noHead) _ (omega (arith, length-head rec long i hi noHead))
+        ∙ ap (λ (k : ℕ). k - 1) (before-open rec (withHead rec i noHead) (behind-head rec long i hi noHead))
+    go false = omega arith
+
+count-upto : (second : ℕ) (rec room : List ℕ) → shareSize ≤ length rec → (n : ℕ) → n ≤ 4
+    → openCount (sweptTo second rec n) ≡ openCount rec - droppedOf second (series (slotAt rec room) 0 n)
+count-upto second rec room long zero h = omega arith
+count-upto second rec room long (suc n) h =
+    let u : Upto second rec room (sweptTo second rec n) n = swept-upto second rec room long n (omega arith) in
+    let ih : openCount (sweptTo second rec n) ≡ openCount rec - droppedOf second (series (slotAt rec room) 0 n) = count-upto second rec room long n (omega arith) in
+    let a : openCount (sweptAt second (sweptTo second rec n) n) ≡ openCount (sweptTo second rec n) - cond (isOld second (headAt (sweptTo second rec n) n)) 1 0
+    = one-count second (sweptTo second rec n) n (omega arith) (u .long) in
+    let s : slotAt (sweptTo second rec n) room n ≡ slotAt rec room n = u .slots n (omega arith) ∙ rw (le-ltb n n (omega arith)) refl in
+    let o : cond (isOld second (headAt (sweptTo second rec n) n)) 1 0 ≡ oneDropped second (slotAt rec room n) = old-one second (sweptTo second rec n) room n ∙ ap (oneDropped second) s in
+    let m : droppedOf second (series (slotAt rec room) 0 (suc n)) ≡ droppedOf second (series (slotAt rec room) 0 n) + oneDropped second (slotAt rec room n)
+    = ap (λ (k : ℕ). droppedOf second (series (slotAt rec room) 0 k)) (sym (add-one n)) ∙ ap (droppedOf second) (series-more (slotAt rec room) n) ∙ dropped-more second (series (slotAt rec room) 0 n) (slotAt rec room n) in
+    omega arith
+
+pub swept-count : (second : ℕ) (rec room : List ℕ) → shareSize ≤ length rec → openCount (sweptTo second rec 4) ≡ openCount rec - droppedOf second (slotsOf rec room)
+unfolding slotsOf
+swept-count second rec room long = count-upto second rec room long 4 (omega arith)
+
+pub swept-made : (second : ℕ) (rec room : List ℕ) → SlotsMade rec room → SlotsMade (sweptTo second rec 4) room
+swept-made second rec room m = upto-made second rec room m 4 (omega arith)
 
 -- zeros stand for free slots
 none-series : (i n : ℕ) → _≡_ {A = Slots} (series (λ k. none) i n) (replicate n none)
@@ -137,7 +209,7 @@ count-zero : headOf (replicate headSize 0) .count ≡ 0
 unfolding headOf
 count-zero = refl
 
-module _ (rec room : List ℕ) (n : ℕ) (lr : n ≤ length rec) (enough : recordSize ≤ n) where
+module _ (rec room : List ℕ) (n : ℕ) (lr : n ≤ length rec) (enough : shareSize ≤ n) where
   abbrev blank : List ℕ
   blank = splice rec 0 (replicate n 0)
 
@@ -147,7 +219,7 @@ module _ (rec room : List ℕ) (n : ℕ) (lr : n ≤ length rec) (enough : recor
   blank-long : length blank ≡ length rec
   blank-long = length-splice rec 0 (replicate n 0) (omega (arith, wide))
 
-  blank-free : (i : ℕ) → i < 16 → isFree blank i ≡ true
+  blank-free : (i : ℕ) → i < 4 → isFree blank i ≡ true
   unfolding isFree headAt
   blank-free i hi =
       let z : i * headSize ≡ 0 + i * headSize = omega arith in
@@ -157,13 +229,13 @@ module _ (rec room : List ℕ) (n : ℕ) (lr : n ≤ length rec) (enough : recor
       ∙ part-alike 0 n (i * headSize) headSize (omega arith))
       ∙ ap (λ (k : ℕ). eqb k 0) count-zero
 
-  blank-slot : (i : ℕ) → i < 16 → slotAt blank room i ≡ none
+  blank-slot : (i : ℕ) → i < 4 → slotAt blank room i ≡ none
   unfolding slotAt
   blank-slot i hi = rw (blank-free i hi) refl
 
   pub blank-slots : slotsOf blank room ≡ empty
   unfolding slotsOf
-  blank-slots = series-same (slotAt blank room) (λ k. none) 16 none blank-slot ∙ none-series 0 16
+  blank-slots = series-same (slotAt blank room) (λ k. none) 4 none blank-slot ∙ none-series 0 4
 
-  pub blank-made : roomSize ≤ length room → SlotsMade blank room
+  pub blank-made : shareRoom ≤ length room → SlotsMade blank room
   blank-made lm = record { record-long = omega (arith, blank-long); room-long = lm; slots = λ i hi e. absurd (true≢false (sym (blank-free i hi) ∙ e)) }

@@ -14,7 +14,7 @@ use Rattle.wire.proofs.Parts.{part-same, part-other, part-within, part-inside, 
 use Rattle.wire.proofs.Numbers.{length-little, little-two, little-four, little-eight, little-back, littleAt-reads}
 use Rattle.wire.proofs.Slices.{part-alike}
 use Rattle.wire.proofs.Zeros.{littleAt-zeros}
-use Rattle.reassembly.specs.Sizes.{slotSize, roomSize, headSize, tablesAt, entrySize, tableSize, recordSize}
+use Rattle.reassembly.specs.Sizes.{slotSize, shareRoom, headSize, tablesAt, entrySize, tableSize, shareSize}
 use Rattle.reassembly.specs.declared.Head.{Head}
 use Rattle.reassembly.specs.declared.Entry.{Entry}
 use Rattle.reassembly.specs.Record.{entryPlace, headOf, headBytes, entryOf, entryBytes, headAt, withHead, entryAt, withEntry, cleared, roomOf}
@@ -85,7 +85,7 @@ entry-zeros : entryOf (replicate 4 0) ≡ noEntry
 unfolding entryOf
 entry-zeros = λ j. record { place = littleAt-zeros 4 2 0 (omega arith) j; len = littleAt-zeros 4 2 2 (omega arith) j }
 
-module _ (rec : List ℕ) (long : recordSize ≤ length rec) (i : ℕ) (hi : i < 16) where
+module _ (rec : List ℕ) (long : shareSize ≤ length rec) (i : ℕ) (hi : i < 4) where
   module _ (h : Head) where
     fits-head : i * headSize + length (headBytes h) ≤ length rec
     fits-head = omega (arith, head-wide h)
@@ -144,7 +144,7 @@ module _ (rec : List ℕ) (long : recordSize ≤ length rec) (i : ℕ) (hi : i <
         side (inl a) = inl (omega arith)
         side (inr a) = inr (omega (arith, entry-wide e))
 
-    pub entry-head : (j : ℕ) → j < 16 → headAt (withEntry rec i m e) j ≡ headAt rec j
+    pub entry-head : (j : ℕ) → j < 4 → headAt (withEntry rec i m e) j ≡ headAt rec j
     unfolding withEntry headAt
     entry-head j hj = ap headOf (part-other rec (entryPlace i m) (entryBytes e) fits-entry (j * headSize) headSize (inl (omega arith)))
 
@@ -162,7 +162,7 @@ module _ (rec : List ℕ) (long : recordSize ≤ length rec) (i : ℕ) (hi : i <
   unfolding cleared zeros
   length-cleared = length-splice rec (tablesAt + i * tableSize) zeros fits-zeros
 
-  pub cleared-head : (j : ℕ) → j < 16 → headAt (cleared rec i) j ≡ headAt rec j
+  pub cleared-head : (j : ℕ) → j < 4 → headAt (cleared rec i) j ≡ headAt rec j
   unfolding cleared headAt zeros
   cleared-head j hj = ap headOf (part-other rec (tablesAt + i * tableSize) zeros fits-zeros (j * headSize) headSize (inl (omega arith)))
 
@@ -181,7 +181,7 @@ module _ (rec : List ℕ) (long : recordSize ≤ length rec) (i : ℕ) (hi : i <
       ∙ entry-zeros
 
 -- the room of slot i with a piece put after t bytes, and the other slots' rooms
-module _ (room : List ℕ) (long : roomSize ≤ length room) (i : ℕ) (hi : i < 16) (t : ℕ) (v : List ℕ) (fits : t + length v ≤ slotSize) where
+module _ (room : List ℕ) (long : shareRoom ≤ length room) (i : ℕ) (hi : i < 4) (t : ℕ) (v : List ℕ) (fits : t + length v ≤ slotSize) where
   pub length-kept : length (keptRoom room i t v) ≡ length room
   unfolding keptRoom
   length-kept = length-splice room (i * slotSize + t) v (omega arith)

@@ -1,22 +1,24 @@
--- What the calls do to the bytes that they are lent, on every record, room and buffer. (specs/Stands.antt says what these bytes mean.)
+-- What a neighbour's pieces and a sweep do to its share of the lent bytes, on every share and buffer. (specs/Shares.antt has the calls, which are lent all shares;
+-- specs/Stands.antt says what these bytes mean.)
 use mathlib.Core.Bool.{Bool, cond, _||_}
 use mathlib.Core.List.{List}
 use Prim.Native.Nat.{ℕ, zero, suc, _+_, _*_}
-use lib.Dec.{eqb, ltb, leb}
-use lib.ListN.{length, replicate}
+use lib.Dec.{eqb, ltb}
+use lib.ListN.{length}
 use Rattle.wire.specs.Parts.{splice}
 use Rattle.reassembly.specs.declared.Head.{Head}
 use Rattle.reassembly.specs.declared.Label.{Label}
 use Rattle.reassembly.specs.declared.Reply.{Reply}
-use Rattle.reassembly.specs.Sizes.{messageSize, slotSize, roomSize, recordSize}
+use Rattle.reassembly.specs.Sizes.{messageSize, slotSize}
 use Rattle.reassembly.specs.Record.{headAt, withHead, entryAt, withEntry, cleared, outside, pieceAt}
 use Rattle.reassembly.specs.Slots.{firstFrom, isOpenAs, isFree}
 use Rattle.reassembly.specs.Memory.{Finished, remembers}
 use Rattle.reassembly.specs.Remembered.{memoryOf, rememberedIn, forgottenIn}
+use Rattle.reassembly.specs.Summary.{openCount, withOpen, lowered, isFull}
 use Rattle.reassembly.specs.Joining.{messageOf, joinsOutside}
 use Rattle.reassembly.specs.Judge.{again, misfits, grownBy, isComplete, newHead, noHead, isOld}
 
--- What a call is lent beside a piece: the store's record, the room for the pieces, the assembly buffer.
+-- What a call is lent beside a piece: the store's record, the room for the pieces, the assembly buffer. So is a neighbour's share of them.
 pub record Lent : Type 0 where
   pub rec : List ℕ
   pub room : List ℕ
@@ -95,73 +97,61 @@ unfoldable pub openedIn : Lent → ℕ → Label → ℕ → List ℕ → After
 openedIn x i l second v =
     after (bare 0) (kept (lent (cleared (x .rec) i) (x .room) (x .out)) i l 0 (grownBy (newHead l second) l (length v)) v)
 
+-- a piece opened a message: the summary says one more than before
+abbrev pub withRaised : Lent → After → After
+withRaised x y = after (y .reply) (lent (withOpen (y .left .rec) (openCount (x .rec) + 1)) (y .left .room) (y .left .out))
+
 -- a piece of a message that is not open: 57 where its id is remembered, or 52, or it is kept in the first free slot
 unfoldable pub openedNow : Lent → Label → ℕ → List ℕ → After
 openedNow x l second v =
     cond (remembers (memoryOf (x .rec)) (l .id)) (refuses 57 x)
-    (cond (leb 16 (firstFrom (isFree (x .rec)) 0 16)) (refuses 52 x)
-    (openedIn x (firstFrom (isFree (x .rec)) 0 16) l second v))
+    (cond (isFull (x .rec)) (refuses 52 x)
+    (withRaised x (openedIn x (firstFrom (isFree (x .rec)) 0 4) l second v)))
 
--- the record after a piece that was answered n: with 60 its message is finished, and remembered
+-- the record after a piece that was answered n: with 60 its message is finished, the summary says one less, and it is remembered
 unfoldable pub rememberedAfter : List ℕ → ℕ → Finished → List ℕ
-rememberedAfter rec n f = cond (eqb n 60) (rememberedIn rec f) rec
+rememberedAfter rec n f = cond (eqb n 60) (rememberedIn (lowered rec) f) rec
 
 -- what a call for a piece of the label's message leaves; where it is finished, it is remembered with this second
 abbrev pub withRemembered : Label → ℕ → After → After
 withRemembered l second y = after (y .reply) (lent (rememberedAfter (y .left .rec) (y .reply .number) (record { id = l .id; second = second })) (y .left .room) (y .left .out))
 
--- a piece of any message, at a second. An open message is looked for first: on a record that calls made its id is not remembered (specs/Apart.antt),
+-- a piece of any message, at a second. An open message is looked for first: on a share that calls made its id is not remembered (specs/Apart.antt),
 -- so 57 comes before 54 there, as the numbers' table has it
 unfoldable pub takenPiece : Lent → Label → ℕ → List ℕ → After
 takenPiece x l second v =
-    cond (ltb (firstFrom (isOpenAs (x .rec) (l .id)) 0 16) 16)
-    (withRemembered l second (added x (firstFrom (isOpenAs (x .rec) (l .id)) 0 16) l v))
+    cond (ltb (firstFrom (isOpenAs (x .rec) (l .id)) 0 4) 4)
+    (withRemembered l second (added x (firstFrom (isOpenAs (x .rec) (l .id)) 0 4) l v))
     (openedNow x l second v)
-
--- 59 before all else: the lent record or room is short. (That the record names bytes outside is asked only of pieces that the call reads: docs/DECISIONS.md)
-unfoldable pub lentShort : List ℕ → List ℕ → Bool
-lentShort rec room = ltb (length rec) recordSize || ltb (length room) roomSize
 
 -- 50: the piece's length is 0 or above 1,500
 unfoldable pub badSize : ℕ → Bool
 badSize n = eqb n 0 || ltb 1500 n
 
--- 59 and 50, then the piece is taken
-unfoldable pub firstCall : Lent → Label → ℕ → List ℕ → After
-firstCall x l second v =
-    cond (lentShort (x .rec) (x .room)) (refuses 59 x)
-    (cond (badSize (length v)) (refuses 50 x)
-    (takenPiece x l second v))
+-- a first piece: 50, then it is taken
+unfoldable pub firstTaken : Lent → Label → ℕ → List ℕ → After
+firstTaken x l second v = cond (badSize (length v)) (refuses 50 x) (takenPiece x l second v)
 
 -- 51: a follow-on's number is 0 or above 127
 unfoldable pub offNumber : ℕ → Bool
 offNumber k = eqb k 0 || ltb 127 k
 
--- 59, 50 and 51, then the piece is taken
-unfoldable pub followOnCall : Lent → Label → ℕ → List ℕ → After
-followOnCall x l second v =
-    cond (lentShort (x .rec) (x .room)) (refuses 59 x)
-    (cond (badSize (length v)) (refuses 50 x)
+-- a follow-on piece: 50 and 51, then it is taken
+unfoldable pub followOnTaken : Lent → Label → ℕ → List ℕ → After
+followOnTaken x l second v =
+    cond (badSize (length v)) (refuses 50 x)
     (cond (offNumber (l .number)) (refuses 51 x)
-    (takenPiece x l second v)))
+    (takenPiece x l second v))
 
--- the record with slot i free where its message is old
+-- slot i is free where its message is old, and the summary says one less
 unfoldable pub sweptAt : ℕ → List ℕ → ℕ → List ℕ
-sweptAt second rec i = cond (isOld second (headAt rec i)) (withHead rec i noHead) rec
+sweptAt second rec i = cond (isOld second (headAt rec i)) (lowered (withHead rec i noHead)) rec
 
--- the record with the first n slots swept
+-- the first n slots swept
 abbrev pub sweptTo : ℕ → List ℕ → ℕ → List ℕ
 sweptTo second rec zero = rec
 sweptTo second rec (suc n) = sweptAt second (sweptTo second rec n) n
 
--- a sweep: old messages are dropped, finished ones that are due are forgotten; a record that is too short for a store has none
-unfoldable pub swept : ℕ → List ℕ → List ℕ
-swept second rec = cond (ltb (length rec) recordSize) rec (forgottenIn second (sweptTo second rec 16))
-
--- a new store: its record is zeros, and what is lent behind it stays; a short record stays
-unfoldable pub renewed : List ℕ → List ℕ
-renewed rec = cond (ltb (length rec) recordSize) rec (splice rec 0 (replicate recordSize 0))
-
--- what making it new answers: 59 where the record is short
-unfoldable pub renewal : List ℕ → ℕ
-renewal rec = cond (ltb (length rec) recordSize) 59 0
+-- a share swept: old messages are dropped, finished ones that are due are forgotten
+unfoldable pub shareSwept : ℕ → List ℕ → List ℕ
+shareSwept second rec = forgottenIn second (sweptTo second rec 4)

@@ -1,4 +1,4 @@
--- The inputs that show how request P5 is read (5.1 to 5.10, 5.13 to 5.15), on a new store of 16 slots that remembers 64.
+-- The inputs that show how request P5 is read (5.1 to 5.10, 5.13 to 5.15), on a neighbour's new store, with the 4 slots and 16 remembered messages of request P12.
 use mathlib.Core.Path.{_≡_}
 use mathlib.Core.Bool.{true, false}
 use mathlib.Core.List.{List, [], _∷_, _++_}
@@ -40,19 +40,19 @@ largestSecond = 18446744073709551615
 
 -- What they are answered by.
 pub record Readings : Type 0 where
-  -- 5.1: 51 and 50 come before 57, and 57 whatever the piece; with 16 open too, where another message is 52
+  -- 5.1: 51 and 50 come before 57, and 57 whatever the piece; with 4 open too, where another message is 52
   pub at-5-1 :
       answers 2 (finish 7 0 ++ (piece messageSize (follow 7 0 false (1 ∷ [])) 0 ∷ piece messageSize (follow 7 1 true []) 0 ∷ lastPiece 7 0 ∷ piece messageSize (follow 7 9 false (1 ∷ [])) 0 ∷ []))
       ≡ 51 ∷ 50 ∷ 57 ∷ 57 ∷ []
-  pub at-5-1-full : answers 18 (finish 7 0 ++ series (λ id. firstPiece id 0) 100 16 ++ (lastPiece 7 0 ∷ firstPiece 8 0 ∷ [])) ≡ 57 ∷ 52 ∷ []
+  pub at-5-1-full : answers 6 (finish 7 0 ++ series (λ id. firstPiece id 0) 100 4 ++ (lastPiece 7 0 ∷ firstPiece 8 0 ∷ [])) ≡ 57 ∷ 52 ∷ []
   -- 5.2: due is not forgotten
   pub at-5-2 : answers 0 (finish 7 0 ++ (lastPiece 7 99 ∷ [])) ≡ 0 ∷ 60 ∷ 57 ∷ []
   -- 5.3: the finishing second counts
   pub at-5-3 : answers 0 (firstPiece 7 0 ∷ lastPiece 7 20 ∷ sweepAt 30 ∷ firstPiece 7 30 ∷ sweepAt 50 ∷ firstPiece 7 50 ∷ []) ≡ 0 ∷ 60 ∷ 0 ∷ 57 ∷ 0 ∷ 0 ∷ []
   -- 5.4: the first finished goes by the order of the calls
-  pub at-5-4 : answers 130 (finish 0 10 ++ finish 1 5 ++ finishes 62 2 10 ++ finish 64 10 ++ (firstPiece 1 10 ∷ firstPiece 0 10 ∷ [])) ≡ 57 ∷ 0 ∷ []
+  pub at-5-4 : answers 34 (finish 0 10 ++ finish 1 5 ++ finishes 14 2 10 ++ finish 16 10 ++ (firstPiece 1 10 ∷ firstPiece 0 10 ∷ [])) ≡ 57 ∷ 0 ∷ []
   -- 5.5: an id that a sweep forgot leaves no gap that counts
-  pub at-5-5 : answers 129 (finish 0 100 ++ finishes 63 1 0 ++ (sweepAt 30 ∷ []) ++ finish 64 30 ++ (firstPiece 0 30 ∷ [])) ≡ 0 ∷ 60 ∷ 57 ∷ []
+  pub at-5-5 : answers 33 (finish 0 100 ++ finishes 15 1 0 ++ (sweepAt 30 ∷ []) ++ finish 16 30 ++ (firstPiece 0 30 ∷ [])) ≡ 0 ∷ 60 ∷ 57 ∷ []
   -- 5.6: a swept open message is not remembered
   pub at-5-6 : answers 0 (firstPiece 7 0 ∷ sweepAt 30 ∷ firstPiece 7 30 ∷ []) ≡ 0 ∷ 0 ∷ 0 ∷ []
   -- 5.7: 56 finishes nothing
@@ -61,8 +61,8 @@ pub record Readings : Type 0 where
   pub at-5-8 : answers 0 (finish 0 0) ≡ 0 ∷ 60 ∷ []
   -- 5.9: 57 refreshes nothing
   pub at-5-9 : answers 0 (finish 7 0 ++ (firstPiece 7 29 ∷ sweepAt 30 ∷ firstPiece 7 30 ∷ [])) ≡ 0 ∷ 60 ∷ 57 ∷ 0 ∷ 0 ∷ []
-  -- 5.10: due ids count among the 64 until a sweep finds them; the 65th pushes out the first, and no other
-  pub at-5-10 : answers 128 (finishes 64 0 0 ++ finish 64 99 ++ (firstPiece 0 99 ∷ firstPiece 1 99 ∷ [])) ≡ 0 ∷ 60 ∷ 0 ∷ 57 ∷ []
+  -- 5.10: due ids count among the 16 until a sweep finds them; the 17th pushes out the first, and no other
+  pub at-5-10 : answers 32 (finishes 16 0 0 ++ finish 16 99 ++ (firstPiece 0 99 ∷ firstPiece 1 99 ∷ [])) ≡ 0 ∷ 60 ∷ 0 ∷ 57 ∷ []
   -- 5.13: nothing wraps
   pub at-5-13 : answers 0 (finish 7 largestSecond ++ (sweepAt largestSecond ∷ firstPiece 7 largestSecond ∷ [])) ≡ 0 ∷ 60 ∷ 0 ∷ 57 ∷ []
   -- 5.14: late repeats are 57

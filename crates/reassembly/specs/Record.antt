@@ -1,4 +1,4 @@
--- The store's record in bytes: 16 heads of 24 bytes, then 16 tables of 128 entries of 4 bytes; and the pieces in the room.
+-- A neighbour's share of the record: 4 heads of 24 bytes, then 4 tables of 128 entries of 4 bytes; and the pieces in its share of the room. `rec` and `room` are these shares.
 use mathlib.Core.Bool.{Bool}
 use mathlib.Core.List.{List, [], _∷_, _++_}
 use Prim.Native.Nat.{ℕ, _+_, _*_}

@@ -1,4 +1,4 @@
--- The memory in the record, behind the tables: 64 ids side by side, 64 seconds side by side, and how many of them are in use.
+-- The memory in a share of the record: 16 ids side by side, 16 seconds side by side, and how many of them are in use.
 use mathlib.Core.Bool.{cond}
 use mathlib.Core.List.{List, [], _∷_}
 use Prim.Native.Nat.{ℕ, zero, suc, _+_, _*_}
@@ -10,7 +10,7 @@ use Rattle.reassembly.specs.Sizes.{mostRemembered, idsAt, idSize, second
 use Rattle.wire.specs.Series.{series}
 use Rattle.reassembly.specs.Memory.{Finished, Memory, isDue}
 
--- how many are remembered; a count above 64, which no call leaves, is read as 64
+-- how many are remembered; a count above 16, which no call leaves, is read as 16
 unfoldable pub rememberedCount : List ℕ → ℕ
 rememberedCount rec = cond (ltb (getD rec countAt 0) mostRemembered) (getD rec countAt 0) mostRemembered
 
@@ -36,12 +36,12 @@ movedTo rec j k n =
     splice (splice rec (idsAt + j * idSize) (part rec (idsAt + k * idSize) (n * idSize)))
     (secondsAt + j * secondSize) (part rec (secondsAt + k * secondSize) (n * secondSize))
 
--- the record with f remembered; where 64 are, the first is pushed out: the other 63 move down
+-- the record with f remembered; where 16 are, the first is pushed out: the other 15 move down
 unfoldable pub rememberedIn : List ℕ → Finished → List ℕ
 rememberedIn rec f =
     cond (ltb (rememberedCount rec) mostRemembered)
     (withCount (withFinished rec (rememberedCount rec) f) (rememberedCount rec + 1))
-    (withCount (withFinished (movedTo rec 0 1 63) 63 f) mostRemembered)
+    (withCount (withFinished (movedTo rec 0 1 15) 15 f) mostRemembered)
 
 -- A record from which a sweep has forgotten, and how many it has kept.
 pub record Sifted : Type 0 where

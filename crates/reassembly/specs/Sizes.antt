@@ -1,4 +1,4 @@
--- The sizes of a message and of the bytes that a store is lent, each named once.
+-- The sizes of a message and of the bytes that a store is lent, each named once. Record and room are cut into four shares, one for each neighbour.
 use Prim.Native.Nat.{ℕ}
 
 -- a message has at most so many bytes, and a slot of the room holds one
@@ -9,7 +9,11 @@ messageSize = 65535
 abbrev pub slotSize : ℕ
 slotSize = 65535
 
--- the room: 16 slots
+-- a neighbour's share of the room: 4 slots
+abbrev pub shareRoom : ℕ
+shareRoom = 262140
+
+-- the room: the shares of 4 neighbours
 abbrev pub roomSize : ℕ
 roomSize = 1048560
 
@@ -17,9 +21,9 @@ roomSize = 1048560
 abbrev pub headSize : ℕ
 headSize = 24
 
--- where the tables begin in the record, behind 16 heads
+-- where the tables begin in a share of the record, behind 4 heads
 abbrev pub tablesAt : ℕ
-tablesAt = 384
+tablesAt = 96
 
 -- an entry of a table
 abbrev pub entrySize : ℕ
@@ -29,28 +33,36 @@ entrySize = 4
 abbrev pub tableSize : ℕ
 tableSize = 512
 
--- so many finished messages are remembered at most
-abbrev pub mostRemembered : ℕ
-mostRemembered = 64
+-- where the summary's number of this neighbour stands, behind 4 tables: how many messages it has open
+abbrev pub openAt : ℕ
+openAt = 2144
 
--- where their ids begin in the record, behind 16 tables, and an id's bytes
+-- so many finished messages of a neighbour are remembered at most
+abbrev pub mostRemembered : ℕ
+mostRemembered = 16
+
+-- where their ids begin, behind the summary's number, and an id's bytes
 abbrev pub idsAt : ℕ
-idsAt = 8576
+idsAt = 2145
 
 abbrev pub idSize : ℕ
 idSize = 4
 
--- where their seconds begin, behind 64 ids, and a second's bytes
+-- where their seconds begin, behind 16 ids, and a second's bytes
 abbrev pub secondsAt : ℕ
-secondsAt = 8832
+secondsAt = 2209
 
 abbrev pub secondSize : ℕ
 secondSize = 8
 
--- where their count stands, behind 64 seconds
+-- where their count stands, behind 16 seconds
 abbrev pub countAt : ℕ
-countAt = 9344
+countAt = 2337
 
--- the record: 16 heads, 16 tables, the memory
+-- a neighbour's share of the record: 4 heads, 4 tables, how many messages are open, the memory
+abbrev pub shareSize : ℕ
+shareSize = 2338
+
+-- the record: the shares of 4 neighbours
 abbrev pub recordSize : ℕ
-recordSize = 9345
+recordSize = 9352

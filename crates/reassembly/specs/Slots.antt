@@ -1,4 +1,4 @@
--- The slot of a message in the record: found by its id, or the first that is free.
+-- The slot of a message in a share of the record: found by its id, or the first that is free.
 use mathlib.Core.Bool.{Bool, cond, not, _&&_}
 use mathlib.Core.List.{List}
 use Prim.Native.Nat.{ℕ, zero, suc, _+_}

@@ -1,5 +1,5 @@
--- What a record and a room stand for: a store of specs/Store.antt. Then the invariant of records that calls made (`Fine` for a slot, `Made` for all), and what
--- it means that a call does on them what the store does and keeps the invariant.
+-- What a neighbour's share of record and room stands for: a store of specs/Store.antt. Then the invariant of shares that calls made (`Fine` for a slot, `Made` for
+-- all), and what it means that a call does on them what the store does and keeps the invariant. `rec` and `room` are the shares.
 use mathlib.Core.Path.{_≡_}
 use mathlib.Core.Bool.{true, false, cond}
 use mathlib.Core.List.{List, [], _∷_}
@@ -7,16 +7,18 @@ use mathlib.Core.Option.{Option, none, some}
 use Prim.Native.Nat.{ℕ, _+_, _≤_, _<_}
 use lib.ListN.{length, getD}
 use Rattle.wire.specs.Parts.{splice}
-use Rattle.reassembly.specs.Sizes.{roomSize, mostRemembered, recordSize}
+use Rattle.reassembly.specs.Sizes.{shareRoom, mostRemembered, shareSize}
 use Rattle.reassembly.specs.declared.Head.{Head}
 use Rattle.reassembly.specs.declared.Label.{Label}
 use Rattle.reassembly.specs.declared.Reply.{Reply}
 use Rattle.wire.specs.Series.{series}
-use Rattle.reassembly.specs.Store.{Piece, first, follow, Message, Slots, Store, newStore, Rebuilt, Answer, isHeld, total, sweep}
+use Rattle.reassembly.specs.Store.{Piece, first, follow, Message, Slots, Store, Rebuilt, Answer, isHeld, total}
 use Rattle.reassembly.specs.Record.{headAt, entryAt, pieceAt}
 use Rattle.reassembly.specs.Slots.{isFree}
 use Rattle.reassembly.specs.Remembered.{memoryOf}
 use Rattle.reassembly.specs.Apart.{Apart}
+use Rattle.reassembly.specs.Neighbours.{openOf}
+use Rattle.reassembly.specs.Summary.{openCount}
 use Rattle.reassembly.specs.Calls.{After, bare}
 
 -- the bytes held of each number of slot i
@@ -31,9 +33,9 @@ messageWith h rec room i = record { id = h .id; opened = h .opened; kind = h .ki
 unfoldable pub slotAt : List ℕ → List ℕ → ℕ → Option Message
 slotAt rec room i = cond (isFree rec i) none (some (messageWith (headAt rec i) rec room i))
 
--- the slots that a record and a room stand for
+-- the slots that they stand for
 unfoldable pub slotsOf : List ℕ → List ℕ → Slots
-slotsOf rec room = series (slotAt rec room) 0 16
+slotsOf rec room = series (slotAt rec room) 0 4
 
 -- the store that they stand for
 abbrev pub stands : List ℕ → List ℕ → Store
@@ -61,15 +63,16 @@ pub record Fine (h : Head) (rec room : List ℕ) (i : ℕ) : Type 0 where
 
 -- The invariant of the slots: record and room have their lengths, and every slot in use meets its own.
 pub record SlotsMade (rec room : List ℕ) : Type 0 where
-  pub record-long : recordSize ≤ length rec
-  pub room-long : roomSize ≤ length room
-  pub slots : (i : ℕ) → i < 16 → isFree rec i ≡ false → Fine (headAt rec i) rec room i
+  pub record-long : shareSize ≤ length rec
+  pub room-long : shareRoom ≤ length room
+  pub slots : (i : ℕ) → i < 4 → isFree rec i ≡ false → Fine (headAt rec i) rec room i
 
--- The invariant of a store: that of its slots, and its ids are apart. A new record meets it (`NewAgrees`), and a call that is lent such a record and room
--- leaves such ones (`Agrees`, `SweepAgrees`): "a record that calls made" means this.
+-- The invariant of a share: that of its slots, its ids are apart, and the summary is a count over the slots. Zeros meet it, and a piece or a sweep that comes to
+-- such a share leaves such a one (`Agrees`): "a share that calls made" means this.
 pub record Made (rec room : List ℕ) : Type 0 where
   pub slots-made : SlotsMade rec room
   pub apart : Apart mostRemembered (stands rec room)
+  pub counted : openCount rec ≡ openOf (slotsOf rec room)
 
 -- what a piece of the store is to a call: a label beside the bytes
 unfoldable pub labelOf : Piece → Label
@@ -86,19 +89,9 @@ unfoldable pub laidOut : List ℕ → Option Rebuilt → List ℕ
 laidOut out none = out
 laidOut out (some w) = splice out 0 (w .bytes)
 
--- A call did to record, room and assembly buffer what the store's answer says, and left what a call may be lent again. The contracts of reassembly_store promise it.
+-- A call did to the share and the assembly buffer what the store's answer says, and left what a call may be lent again.
 pub record Agrees (out : List ℕ) (x : After) (a : Answer) : Type 0 where
   pub reply : x .reply ≡ replyFor (a .number) (a .out)
   pub delivered : x .left .out ≡ laidOut out (a .out)
   pub store : stands (x .left .rec) (x .left .room) ≡ a .store
   pub made : Made (x .left .rec) (x .left .room)
-
--- A sweep did to what the record stands for, with any room, what the store's sweep does, and left what a call may be lent again.
-pub record SweepAgrees (second : ℕ) (rec rec′ : List ℕ) : Type 0 where
-  pub store : (room : List ℕ) → recordSize ≤ length rec → stands rec′ room ≡ sweep second (stands rec room)
-  pub made : (room : List ℕ) → Made rec room → Made rec′ room
-
--- A new record stands for the new store, with any room, and with one of the lent length it is what a call may be lent.
-pub record NewAgrees (rec rec′ : List ℕ) : Type 0 where
-  pub store : (room : List ℕ) → recordSize ≤ length rec → stands rec′ room ≡ newStore
-  pub made : (room : List ℕ) → recordSize ≤ length rec → roomSize ≤ length room → Made rec′ room

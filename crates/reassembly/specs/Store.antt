@@ -1,4 +1,5 @@
--- Reassembly (document 01, "Reassembly" and "Numbers returned", rows 50 to 60; document 02, P5, row 57): what the store does with a piece, and a sweep.
+-- Reassembly (document 01, "Reassembly" and "Numbers returned", rows 50 to 60; document 02, P5, row 57): what the store of one neighbour does with a piece, and
+-- a sweep. specs/Neighbours.antt has the store of four.
 use mathlib.Core.Bool.{Bool, true, false, cond, _&&_, _||_, Bool·beq}
 use mathlib.Core.List.{List, [], _∷_, _++_, map}
 use mathlib.Core.Option.{Option, none, some}
@@ -45,15 +46,15 @@ pub record Message : Type 0 where
   pub last : ℕ
   pub table : List (List ℕ)
 
--- the slots for open messages: 16, each free or a message
+-- the slots for open messages: 4 for a neighbour, each free or a message
 abbrev pub Slots : Type 0
 Slots = List (Option Message)
 
 -- no message is open
 abbrev pub empty : Slots
-empty = replicate 16 none
+empty = replicate 4 none
 
--- The store: the slots, and the finished messages that are remembered.
+-- A neighbour's store: the slots, and the finished messages that are remembered.
 pub record Store : Type 0 where
   pub slots : Slots
   pub remembered : Memory

@@ -7,29 +7,37 @@ pub const SLOT_SIZE: usize = 65535;
 
 pub const ROOM_SIZE: usize = 1048560;
 
-pub const RECORD_SIZE: usize = 9345;
+pub const RECORD_SIZE: usize = 9352;
 
-// In the record: a slot's head, where the tables begin, a slot's table and an entry of it.
+// A neighbour's share of the room and of the record: a quarter of each.
+pub const SHARE_ROOM: usize = 262140;
+
+pub const SHARE_SIZE: usize = 2338;
+
+// In a share of the record: a slot's head, where the tables begin, a slot's table and an entry of it.
 pub const HEAD_SIZE: usize = 24;
 
-pub const TABLES_AT: usize = 384;
+pub const TABLES_AT: usize = 96;
 
 pub const TABLE_SIZE: usize = 512;
 
 pub const ENTRY_SIZE: usize = 4;
 
-// Behind the tables: how many finished messages are remembered at most, where their ids, their seconds and their count stand.
-pub const MOST_REMEMBERED: usize = 64;
+// Behind the tables: how many messages are open, the summary's number of this neighbour.
+pub const OPEN_AT: usize = 2144;
 
-pub const IDS_AT: usize = 8576;
+// Behind that: how many finished messages are remembered at most, where their ids, their seconds and their count stand.
+pub const MOST_REMEMBERED: usize = 16;
+
+pub const IDS_AT: usize = 2145;
 
 pub const ID_SIZE: usize = 4;
 
-pub const SECONDS_AT: usize = 8832;
+pub const SECONDS_AT: usize = 2209;
 
 pub const SECOND_SIZE: usize = 8;
 
-pub const COUNT_AT: usize = 9344;
+pub const COUNT_AT: usize = 2337;
 
 // A slot: the message's id, the second it was opened in, its expiration and type once number 0 is held, the bytes held in all,
 // how many numbers are held (0: the slot is free), the last number (0: not known), the highest number held.

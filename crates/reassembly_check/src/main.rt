@@ -14,6 +14,7 @@ const MARK: u8 = 165;
 // A line's fields.
 struct Line {
     call: u64,
+    neighbour: u64,
     id: u32,
     a: u64,
     b: u64,
@@ -35,11 +36,11 @@ fn value(got: Got) -> u64 {
     n
 }
 
-fn fields(text: &[u8], from: usize) -> [u64; 13] {
-    let mut all = [0u64; 13];
+fn fields(text: &[u8], from: usize) -> [u64; 14] {
+    let mut all = [0u64; 14];
     let mut at = from;
     let mut i = 0;
-    while i < 13 {
+    while i < 14 {
         all[i] = value(lines::number(lines::field(text, at)));
         at = lines::after(text, at);
         i += 1;
@@ -60,18 +61,19 @@ fn line_at(text: &[u8], at: usize) -> Line
     let f = fields(text, at);
     Line {
         call: f[0],
-        id: (f[1] % 4294967296) as u32,
-        a: f[2],
-        b: f[3],
-        second: f[4],
-        seed: f[5],
-        len: most(f[6], 2048),
-        room: most(f[7], 65536),
-        number: f[8],
-        kind: f[9],
-        expires: f[10],
-        length: f[11],
-        sum: f[12],
+        neighbour: f[1],
+        id: (f[2] % 4294967296) as u32,
+        a: f[3],
+        b: f[4],
+        second: f[5],
+        seed: f[6],
+        len: most(f[7], 2048),
+        room: most(f[8], 65536),
+        number: f[9],
+        kind: f[10],
+        expires: f[11],
+        length: f[12],
+        sum: f[13],
     }
 }
 
@@ -140,6 +142,7 @@ fn call(rec: &mut [u8], room: &mut [u8], out: &mut [u8], l: Line, piece: &[u8]) 
             rec,
             room,
             out,
+            l.neighbour,
             l.id,
             a,
             (l.b % 4294967296) as u32,
@@ -152,6 +155,7 @@ fn call(rec: &mut [u8], room: &mut [u8], out: &mut [u8], l: Line, piece: &[u8]) 
             rec,
             room,
             out,
+            l.neighbour,
             l.id,
             a,
             l.b == 1,
@@ -240,7 +244,7 @@ fn run(text: &[u8], rec: &mut [u8], room: &mut [u8], out: &mut [u8], piece: &mut
     io::write_all(STDOUT_FILENO, b" agree\n");
 }
 
-// Room for the pieces of 16 messages.
+// Room for the pieces of 16 messages, 4 of each neighbour.
 fn blank() -> [u8; ROOM_SIZE] {
     [0u8; ROOM_SIZE]
 }

@@ -10,7 +10,7 @@ use lib.ListN.{length, getD}
 use borrow.Author.Tests.{lt-ltb, le-ltb}
 use Rattle.wire.specs.Parts.{part, splice}
 use Rattle.wire.proofs.Parts.{length-part, part-after}
-use Rattle.reassembly.specs.Sizes.{mostRemembered, idsAt, idSize, secondsAt, secondSize, countAt, recordSize}
+use Rattle.reassembly.specs.Sizes.{mostRemembered, idsAt, idSize, secondsAt, secondSize, countAt, shareSize}
 use Rattle.wire.specs.Series.{series}
 use Rattle.reassembly.specs.Ages.{longAgo}
 use Rattle.reassembly.specs.Memory.{remembers, isDue}
@@ -28,7 +28,7 @@ module _ (rec : List ℕ) where
   count-above n e h = rw (le-ltb (getD rec countAt 0) mostRemembered (omega arith)) refl
 
   -- the ids' move leaves the seconds as they were
-  pub moved : (ids both : List ℕ) (j k n : ℕ) → recordSize ≤ length rec → j ≤ k → k + n ≤ mostRemembered
+  pub moved : (ids both : List ℕ) (j k n : ℕ) → shareSize ≤ length rec → j ≤ k → k + n ≤ mostRemembered
       → ids ≡ splice rec (idsAt + j * idSize) (part rec (idsAt + k * idSize) (n * idSize))
       → both ≡ splice ids (secondsAt + j * secondSize) (part ids (secondsAt + k * secondSize) (n * secondSize))
       → both ≡ movedTo rec j k n
@@ -56,8 +56,8 @@ module _ (rec : List ℕ) where
   unfolding rememberedIn
   with-room n id second put saved e h p s = rw (lt-ltb (rememberedCount rec) mostRemembered (omega arith)) (cc)
 
-  pub pushed-out : (n id second : ℕ) (down put saved : List ℕ) → n ≡ rememberedCount rec → mostRemembered ≤ n → down ≡ movedTo rec 0 1 63
-      → put ≡ withFinished down 63 (record { id = id; second = second }) → saved ≡ withCount put mostRemembered → saved ≡ rememberedIn rec (record { id = id; second = second })
+  pub pushed-out : (n id second : ℕ) (down put saved : List ℕ) → n ≡ rememberedCount rec → mostRemembered ≤ n → down ≡ movedTo rec 0 1 15
+      → put ≡ withFinished down 15 (record { id = id; second = second }) → saved ≡ withCount put mostRemembered → saved ≡ rememberedIn rec (record { id = id; second = second })
   unfolding rememberedIn
   pushed-out n id second down put saved e h m p s = rw (le-ltb (rememberedCount rec) mostRemembered (omega arith)) (cc)
 

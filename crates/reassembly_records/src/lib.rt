@@ -1,4 +1,4 @@
-// The store's record in lent bytes: 16 heads of 24 bytes, then 16 tables of 128 entries of 4 bytes. All zero is the empty store.
+// A neighbour's share of the record: 4 heads of 24 bytes, then 4 tables of 128 entries of 4 bytes. All zero is the empty store.
 use reassembly::ENTRY_SIZE;
 use reassembly::Entry;
 use reassembly::HEAD_SIZE;
@@ -9,7 +9,7 @@ ghost use mathlib.Core.Path.{_≡_};
 ghost use Prim.Native.Nat.{_+_, _*_, _<_, _≤_};
 ghost use lib.ListN.{length, replicate};
 ghost use Rattle.wire.specs.Parts.{splice};
-ghost use Rattle.reassembly.specs.Sizes.{headSize, entrySize, recordSize};
+ghost use Rattle.reassembly.specs.Sizes.{headSize, entrySize, shareSize};
 ghost use Rattle.reassembly.specs.Record.{headOf, entryOf, headAt, withHead, entryAt, withEntry, cleared};
 
 fn head_of(b: &[u8]) -> Head
@@ -30,7 +30,7 @@ fn head_of(b: &[u8]) -> Head
 
 // The head of slot i.
 pub fn load_head(rec: &[u8], i: usize) -> Head
-    requires { ⌜ (recordSize ≤ length (now rec)) × (i < 16) ⌝ }
+    requires { ⌜ (shareSize ≤ length (now rec)) × (i < 4) ⌝ }
     ensures { λ r. ⌜ r ≡ headAt (now (rec .entry)) i ⌝ }
 {
     let a = i * HEAD_SIZE;
@@ -39,7 +39,7 @@ pub fn load_head(rec: &[u8], i: usize) -> Head
 }
 
 pub fn save_head(rec: &mut [u8], i: usize, h: Head)
-    requires { ⌜ (recordSize ≤ length (now rec)) × (i < 16) ⌝ }
+    requires { ⌜ (shareSize ≤ length (now rec)) × (i < 4) ⌝ }
     ensures { λ _. ⌜ now (rec .exit) ≡ withHead (now (rec .entry)) i h ⌝ }
 {
     let at = i * HEAD_SIZE;
@@ -63,7 +63,7 @@ fn entry_of(b: &[u8]) -> Entry
 
 // The entry of number k in slot i.
 pub fn load_entry(rec: &[u8], i: usize, k: usize) -> Entry
-    requires { ⌜ (recordSize ≤ length (now rec)) × (i < 16) × (k < 128) ⌝ }
+    requires { ⌜ (shareSize ≤ length (now rec)) × (i < 4) × (k < 128) ⌝ }
     ensures { λ r. ⌜ r ≡ entryAt (now (rec .entry)) i k ⌝ }
 {
     let a = TABLES_AT + i * TABLE_SIZE + k * ENTRY_SIZE;
@@ -72,7 +72,7 @@ pub fn load_entry(rec: &[u8], i: usize, k: usize) -> Entry
 }
 
 pub fn save_entry(rec: &mut [u8], i: usize, k: usize, e: Entry)
-    requires { ⌜ (recordSize ≤ length (now rec)) × (i < 16) × (k < 128) ⌝ }
+    requires { ⌜ (shareSize ≤ length (now rec)) × (i < 4) × (k < 128) ⌝ }
     ensures { λ _. ⌜ now (rec .exit) ≡ withEntry (now (rec .entry)) i k e ⌝ }
 {
     let at = TABLES_AT + i * TABLE_SIZE + k * ENTRY_SIZE;
@@ -94,7 +94,7 @@ pub fn clear(b: &mut [u8], at: usize, n: usize)
 
 // No number of slot i is held.
 pub fn clear_entries(rec: &mut [u8], i: usize)
-    requires { ⌜ (recordSize ≤ length (now rec)) × (i < 16) ⌝ }
+    requires { ⌜ (shareSize ≤ length (now rec)) × (i < 4) ⌝ }
     ensures { λ _. ⌜ now (rec .exit) ≡ cleared (now (rec .entry)) i ⌝ }
 {
     clear(rec, TABLES_AT + i * TABLE_SIZE, TABLE_SIZE);

@@ -7,7 +7,7 @@ ghost use mathlib.Core.Bool.{false};
 ghost use Prim.Native.Nat.{_+_, _<_, _≤_};
 ghost use lib.ListN.{length};
 ghost use Rattle.wire.specs.Parts.{splice};
-ghost use Rattle.reassembly.specs.Sizes.{slotSize, roomSize, recordSize};
+ghost use Rattle.reassembly.specs.Sizes.{slotSize, shareRoom, shareSize};
 ghost use Rattle.reassembly.specs.Record.{entryAt, outside, pieceAt};
 ghost use Rattle.reassembly.specs.Joining.{pieceOr, messageOf, outsideOr, joinsOutside, lengthOr, sumOf};
 
@@ -26,7 +26,7 @@ pub fn outside(e: Entry) -> bool
 
 // Number k of slot i, as the part of the room that its entry names.
 pub fn piece<'a>(rec: &[u8], room: &'a [u8], i: usize, k: usize) -> &'a [u8]
-    requires { ⌜ (recordSize ≤ length (now rec)) × (roomSize ≤ length (now room)) × (i < 16) × (k < 128) × (outside (entryAt (now rec) i k) ≡ false) ⌝ }
+    requires { ⌜ (shareSize ≤ length (now rec)) × (shareRoom ≤ length (now room)) × (i < 4) × (k < 128) × (outside (entryAt (now rec) i k) ≡ false) ⌝ }
     ensures { λ r. ⌜ now r ≡ pieceAt (now (rec .entry)) (now (room .entry)) i k ⌝ }
 {
     let e = reassembly_records::load_entry(rec, i, k);
@@ -41,7 +41,7 @@ pub fn piece<'a>(rec: &[u8], room: &'a [u8], i: usize, k: usize) -> &'a [u8]
 
 // Number k measured, where number m is v.
 fn measure_one(rec: &[u8], i: usize, m: usize, v: &[u8], k: usize) -> Measured
-    requires { ⌜ (recordSize ≤ length (now rec)) × (i < 16) × (k < 128) × (length (now v) ≤ 1500) ⌝ }
+    requires { ⌜ (shareSize ≤ length (now rec)) × (i < 4) × (k < 128) × (length (now v) ≤ 1500) ⌝ }
     ensures { λ r. ⌜ (r .outside ≡ outsideOr (now (rec .entry)) i m k) × (r .size ≡ lengthOr (now (rec .entry)) i m (length (now (v .entry))) k) × (r .size ≤ slotSize) ⌝ }
 {
     if k == m {
@@ -59,7 +59,7 @@ fn measure_one(rec: &[u8], i: usize, m: usize, v: &[u8], k: usize) -> Measured
 
 // The message of the numbers up to last measured, where number m is v.
 pub fn measure(rec: &[u8], i: usize, m: usize, v: &[u8], last: usize) -> Measured
-    requires { ⌜ (recordSize ≤ length (now rec)) × (i < 16) × (last < 128) × (length (now v) ≤ 1500) ⌝ }
+    requires { ⌜ (shareSize ≤ length (now rec)) × (i < 4) × (last < 128) × (length (now v) ≤ 1500) ⌝ }
     ensures { λ r. ⌜ (r .outside ≡ joinsOutside (now (rec .entry)) i m (last + 1)) × (r .size ≡ sumOf (lengthOr (now (rec .entry)) i m (length (now (v .entry)))) (last + 1)) ⌝ }
 {
     let mut outside = false;
@@ -85,7 +85,7 @@ fn lay_down(
     v: &[u8],
     k: usize,
 ) -> usize
-    requires { ⌜ (recordSize ≤ length (now rec)) × (roomSize ≤ length (now room)) × (i < 16) × (k < 128) × (outsideOr (now rec) i m k ≡ false) × (at + length (pieceOr (now rec) (now room) i m (now v) k) ≤ length (now out)) ⌝ }
+    requires { ⌜ (shareSize ≤ length (now rec)) × (shareRoom ≤ length (now room)) × (i < 4) × (k < 128) × (outsideOr (now rec) i m k ≡ false) × (at + length (pieceOr (now rec) (now room) i m (now v) k) ≤ length (now out)) ⌝ }
     ensures { λ r. ⌜ (r ≡ at + length (pieceOr (now (rec .entry)) (now (room .entry)) i m (now (v .entry)) k)) × (now (out .exit) ≡ splice (now (out .entry)) at (pieceOr (now (rec .entry)) (now (room .entry)) i m (now (v .entry)) k)) ⌝ }
 {
     if k == m {
@@ -99,7 +99,7 @@ fn lay_down(
 
 // The message of the numbers up to last, where number m is v, is put to the start of out; the rest of out stays.
 pub fn assemble(rec: &[u8], room: &[u8], out: &mut [u8], i: usize, m: usize, v: &[u8], last: usize)
-    requires { ⌜ (recordSize ≤ length (now rec)) × (roomSize ≤ length (now room)) × (i < 16) × (last < 128) × (joinsOutside (now rec) i m (last + 1) ≡ false) × (length (messageOf (now rec) (now room) i m (now v) (last + 1)) ≤ length (now out)) ⌝ }
+    requires { ⌜ (shareSize ≤ length (now rec)) × (shareRoom ≤ length (now room)) × (i < 4) × (last < 128) × (joinsOutside (now rec) i m (last + 1) ≡ false) × (length (messageOf (now rec) (now room) i m (now v) (last + 1)) ≤ length (now out)) ⌝ }
     ensures { λ _. ⌜ now (out .exit) ≡ splice (now (out .entry)) 0 (messageOf (now (rec .entry)) (now (room .entry)) i m (now (v .entry)) (last + 1)) ⌝ }
 {
     let mut at = 0;

@@ -29,7 +29,7 @@ fn tell(r: Received, told: &mut [u64; 6]) -> Outcome
     }
 }
 
-// What the block at a place delivers: 0 and 60 with the message in told; or the block's refusal or the store's, with the block's place, and then nothing changes.
+// What the block at a place of a neighbour's payload delivers: 0 and 60 with the message in told; or the block's refusal or the store's, with the block's place, and then nothing changes.
 #[no_mangle]
 pub extern "C" fn strawhub_block_deliver(
     payload: &[u8],
@@ -37,11 +37,12 @@ pub extern "C" fn strawhub_block_deliver(
     rec: &mut [u8],
     room: &mut [u8],
     out: &mut [u8],
+    neighbour: u64,
     second: u64,
     told: &mut [u64; 6],
 ) -> Outcome
-    ensures { λ r. ⌜ toldWith r (now (told .exit)) (lent (now (rec .exit)) (now (room .exit)) (now (out .exit))) ≡ deliverCall (now (payload .entry)) at (lent (now (rec .entry)) (now (room .entry)) (now (out .entry))) second (now (told .entry)) ⌝ }
+    ensures { λ r. ⌜ toldWith r (now (told .exit)) (lent (now (rec .exit)) (now (room .exit)) (now (out .exit))) ≡ deliverCall (now (payload .entry)) at (lent (now (rec .entry)) (now (room .entry)) (now (out .entry))) neighbour second (now (told .entry)) ⌝ }
 {
-    let r = messages::receive(payload, at, rec, room, out, second);
+    let r = messages::receive(payload, at, rec, room, out, neighbour, second);
     tell(r, told)
 }

@@ -26,13 +26,13 @@ pub const ROWS: &[Row] = &[
     ("an empty first piece, 1 last=`0b`", empty),
     ("0 of 1,501 bytes, 1 last=`0b`", long_piece),
     ("44 pieces of 1,500 bytes", long_message),
-    ("17 messages open, then each one's last", seventeen),
+    ("5 messages open, then each one's last", five),
     ("0=`0a` at second 0, a sweep at 30, 1 last=`0b`", lapse),
     ("0=`0a`, 1 last=`0b`, then both again", sent_again),
     ("0=`0a`, 1 last=`0b`, 1 last=`0b` again, then 0=`0c`", late_piece),
 ];
 
-/// One id, type 20, expiration 9, on both sides; what each said of every piece.
+/// One id of neighbour 0, type 20, expiration 9, on both sides; what each said of every piece.
 struct Both {
     rust: FragmentHandler<Rt>,
     ours: Store,
@@ -46,14 +46,14 @@ impl Both {
 
     fn first_of(mut self, id: u32, bytes: &[u8]) -> Self {
         let rust = told(self.rust.first_fragment(MessageType(20), MessageId::from(id), 9, bytes.to_vec()), false);
-        let ours = said(id, self.ours.first(id, 20, 9, 0, bytes), &self.ours.out);
+        let ours = said(id, self.ours.first(0, id, 20, 9, 0, bytes), &self.ours.out);
         self.said.push((rust, ours));
         self
     }
 
     fn next_of(mut self, id: u32, number: u8, last: bool, bytes: &[u8]) -> Self {
         let rust = told(self.rust.follow_on_fragment(MessageId::from(id), number, last, bytes.to_vec()), false);
-        let ours = said(id, self.ours.follow_on(id, number, last, 0, bytes), &self.ours.out);
+        let ours = said(id, self.ours.follow_on(0, id, number, last, 0, bytes), &self.ours.out);
         self.said.push((rust, ours));
         self
     }
@@ -141,13 +141,13 @@ fn long_message() -> Seen {
     (*rust == message(&[7; 66_000]), *ours == Refused(53))
 }
 
-fn seventeen() -> Seen {
-    let open = (1..=17).fold(Both::new(), |b, id| b.first_of(id, &[1]));
-    let done = (1..=17).fold(open, |b, id| b.next_of(id, 1, true, &[2]));
+fn five() -> Seen {
+    let open = (1..=5).fold(Both::new(), |b, id| b.first_of(id, &[1]));
+    let done = (1..=5).fold(open, |b, id| b.next_of(id, 1, true, &[2]));
     let finished = |a: &Answer| matches!(a, Answer::Finished { .. });
-    let rust = done.said[17..].iter().all(|(r, _)| finished(r));
-    let ours = done.said[17..33].iter().all(|(_, o)| finished(o));
-    (rust, ours && done.said[16].1 == Refused(52) && done.said[33].1 == Kept)
+    let rust = done.said[5..].iter().all(|(r, _)| finished(r));
+    let ours = done.said[5..9].iter().all(|(_, o)| finished(o));
+    (rust, ours && done.said[4].1 == Refused(52) && done.said[9].1 == Kept)
 }
 
 fn sent_again() -> Seen {

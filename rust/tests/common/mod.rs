@@ -1,13 +1,18 @@
 //! What the tests share: a store in lent bytes, and headers of every type.
 #![allow(dead_code)] // each test file uses its part
 
-use strawhub::{FragmentHandler, HeaderKind, Message, ProtocolVersion, Refusal, MESSAGE, RECORD, ROOM};
+use strawhub::{FragmentHandler, HeaderKind, Message, ProtocolVersion, Refusal, MESSAGE, NEIGHBOURS, RECORD, ROOM};
 
 /// The second at which pieces come.
 pub const NOW: u64 = 1_700_000_000;
 
 pub const K1: [u8; 32] = [0x11; 32];
 pub const K2: [u8; 32] = [0x22; 32];
+
+/// A neighbour's share of the record, and in it the bytes of the heads of its slots and the place of the summary's number.
+pub const SHARE: usize = RECORD / NEIGHBOURS as usize;
+pub const HEADS: usize = 4 * 24;
+pub const SUMMARY: usize = HEADS + 4 * 512;
 
 /// What came of a piece: nothing yet, or a message.
 pub type Piece<'a> = Result<Option<Message<'a>>, Refusal>;
@@ -53,20 +58,44 @@ impl Lent {
         &self.assembly[..length]
     }
 
-    /// Whether exactly 16 messages can be opened, and so none was open.
+    /// How many messages each neighbour has open, by the record.
+    pub fn summary(&self) -> [u8; 4] {
+        [0, 1, 2, 3].map(|n| self.record[n * SHARE + SUMMARY])
+    }
+
+    /// Whether each neighbour can open exactly 4 messages, and so none was open.
     pub fn is_empty(&self) -> bool {
         let mut fresh = self.clone();
         let mut handler = fresh.handler();
-        let open =
-            |id: u32, handler: &mut FragmentHandler<'_>| handler.first_fragment(20, id, 1, NOW, b"x").map(|_| ());
-        (9_000..9_016).all(|id| open(id, &mut handler) == Ok(()))
-            && open(9_016, &mut handler) == Err(Refusal::StoreFull)
+        let mut open = |n, id| handler.first_fragment_from(n, 20, id, 1, NOW, b"x").map(|_| ());
+        (0..NEIGHBOURS)
+            .all(|n| (9_000..9_004).all(|id| open(n, id) == Ok(())) && open(n, 9_004) == Err(Refusal::StoreFull))
     }
 }
 
 /// A first piece of message `id`, of type 20.
 pub fn first(id: u32, bytes: &[u8]) -> impl FnOnce(&mut FragmentHandler<'_>) -> Result<bool, Refusal> + '_ {
     move |handler| handler.first_fragment(20, id, 9, NOW, bytes).map(|m| m.is_some())
+}
+
+/// A first piece of neighbour n's message `id`, of type 20.
+pub fn first_from(
+    n: u64,
+    id: u32,
+    bytes: &[u8],
+) -> impl FnOnce(&mut FragmentHandler<'_>) -> Result<bool, Refusal> + '_ {
+    move |handler| handler.first_fragment_from(n, 20, id, 9, NOW, bytes).map(|m| m.is_some())
+}
+
+/// A follow-on piece of neighbour n's message `id`.
+pub fn next_from(
+    n: u64,
+    id: u32,
+    number: u8,
+    last: bool,
+    bytes: &[u8],
+) -> impl FnOnce(&mut FragmentHandler<'_>) -> Result<bool, Refusal> + '_ {
+    move |handler| handler.follow_on_fragment_from(n, id, number, last, NOW, bytes).map(|m| m.is_some())
 }
 
 /// A follow-on piece of message `id`.

@@ -39,7 +39,7 @@ nothing-requires c κs = search needs
 returns : tie.Need-returns
 returns c =
     let a = c .before .before .before .before .before .before .before .before .args in
-    whole-left (a .payload .now) (a .at) (a .rec .now) (a .room .now) (a .out .now) (a .second) (a .block) _ _ _ _ (c .whole-at .result) (c .before .before .block .given .1) (c .whole-at .ensures)
+    whole-left (a .payload .now) (a .at) (a .rec .now) (a .room .now) (a .out .now) (a .neighbour) (a .second) (a .block) _ _ _ _ (c .whole-at .result) (c .before .before .block .given .1) (c .whole-at .ensures)
 
 same-length : tie.Need-same-length
 same-length c = search needs
@@ -53,7 +53,7 @@ same-length-3 c = search needs
 returns-2 : tie.Need-returns-2
 returns-2 c =
     let a = c .before .before .before .before .before .before .before .before .before .before .before .before .before .before .before .before .before .before .before .args in
-    first-left (a .payload .now) (a .at) (a .rec .now) (a .room .now) (a .out .now) (a .second) (a .block) _ _ _ _ (c .before .before .before .before .before .before .before .before .before .before .before .shown .result .now) (c .before .before .before .before .before .before .before .first-fragment .last .0) (c .before .before .before .before .before .before .before .first-fragment .last .1 .0) (c .before .before .before .before .before .before .before .first-fragment .last .1 .1 .0) (c .before .before .before .before .before .before .before .first-fragment .result) (c .rebuilt-by .result) (c .before .before .before .before .before .before .before .before .before .before .before .before .before .block2 .given .1) (c .before .before .before .before .before .before .before .before .before .before .before .shown .ensures) (c .before .before .before .before .before .before .before .first-fragment .ensures .0) (c .rebuilt-by .ensures)
+    first-left (a .payload .now) (a .at) (a .rec .now) (a .room .now) (a .out .now) (a .neighbour) (a .second) (a .block) _ _ _ _ (c .before .before .before .before .before .before .before .before .before .before .before .shown .result .now) (c .before .before .before .before .before .before .before .first-fragment .last .0) (c .before .before .before .before .before .before .before .first-fragment .last .1 .0) (c .before .before .before .before .before .before .before .first-fragment .last .1 .1 .0) (c .before .before .before .before .before .before .before .first-fragment .result) (c .rebuilt-by .result) (c .before .before .before .before .before .before .before .before .before .before .before .before .before .block2 .given .1) (c .before .before .before .before .before .before .before .before .before .before .before .shown .ensures) (c .before .before .before .before .before .before .before .first-fragment .ensures .0) (c .rebuilt-by .ensures)
 
 same-length-4 : tie.Need-same-length-4
 same-length-4 c = search needs
@@ -67,12 +67,12 @@ same-length-6 c = search needs
 returns-3 : tie.Need-returns-3
 returns-3 c =
     let a = c .before .before .before .before .before .before .before .before .before .before .before .before .before .before .before .before .before .before .before .args in
-    follow-left (a .payload .now) (a .at) (a .rec .now) (a .room .now) (a .out .now) (a .second) (a .block) _ _ _ _ (c .before .before .before .before .before .before .before .before .before .before .before .shown2 .result .now) (c .before .before .before .before .before .before .before .follow-on-fragment .last .0) (c .before .before .before .before .before .before .before .follow-on-fragment .last .1 .0) (c .before .before .before .before .before .before .before .follow-on-fragment .last .1 .1 .0) (c .before .before .before .before .before .before .before .follow-on-fragment .result) (c .rebuilt-by2 .result) (c .before .before .before .before .before .before .before .before .before .before .before .before .before .block3 .given .1) (c .before .before .before .before .before .before .before .before .before .before .before .shown2 .ensures) (c .before .before .before .before .before .before .before .follow-on-fragment .ensures .0) (c .rebuilt-by2 .ensures)
+    follow-left (a .payload .now) (a .at) (a .rec .now) (a .room .now) (a .out .now) (a .neighbour) (a .second) (a .block) _ _ _ _ (c .before .before .before .before .before .before .before .before .before .before .before .shown2 .result .now) (c .before .before .before .before .before .before .before .follow-on-fragment .last .0) (c .before .before .before .before .before .before .before .follow-on-fragment .last .1 .0) (c .before .before .before .before .before .before .before .follow-on-fragment .last .1 .1 .0) (c .before .before .before .before .before .before .before .follow-on-fragment .result) (c .rebuilt-by2 .result) (c .before .before .before .before .before .before .before .before .before .before .before .before .before .block3 .given .1) (c .before .before .before .before .before .before .before .before .before .before .before .shown2 .ensures) (c .before .before .before .before .before .before .before .follow-on-fragment .ensures .0) (c .rebuilt-by2 .ensures)
 
 returns-4 : tie.Need-returns-4
 returns-4 c =
     let a = c .before .before .before .before .before .before .args in
-    other-left (a .payload .now) (a .at) (a .rec .now) (a .room .now) (a .out .now) (a .second) (c .nothing .result) (a .block) (c .before .match .keys4) (c .nothing .ensures)
+    other-left (a .payload .now) (a .at) (a .rec .now) (a .room .now) (a .out .now) (a .neighbour) (a .second) (c .nothing .result) (a .block) (c .before .match .keys4) (c .nothing .ensures)
 
 pub deliver-spec : {M : Type 1} → statement M
 deliver-spec =

@@ -33,12 +33,12 @@ same-length-3 c = search needs
 returns : tie.Need-returns
 returns c =
     let a = c .before .before .before .before .before .before .before .before .before .before .before .before .before .before .before .before .before .before .args in
-    block-left (a .payload .now) (a .at) (a .rec .now) (a .room .now) (a .out .now) (a .second) (deliveryWith (c .before .before .before .before .before .before .deliver .result) (lent (c .before .before .before .before .before .before .deliver .last .1 .1 .1 .0) (c .before .before .before .before .before .before .deliver .last .1 .1 .1 .1 .0) (c .before .before .before .before .before .before .deliver .last .1 .1 .1 .1 .1 .0))) (c .before .before .before .before .before .before .before .before .before .before .before .before .before .read-block .result) _ _ _ (c .before .before .before .before .before .before .before .before .before .before .before .block .given .1) (c .before .before .before .before .before .before .deliver .ensures) (readAt (a .payload .now) (a .at)) (c .before .before .before .before .before .before .before .before .before .before .before .before .before .read-block .ensures)
+    block-left (a .payload .now) (a .at) (a .rec .now) (a .room .now) (a .out .now) (a .neighbour) (a .second) (deliveryWith (c .before .before .before .before .before .before .deliver .result) (lent (c .before .before .before .before .before .before .deliver .last .1 .1 .1 .0) (c .before .before .before .before .before .before .deliver .last .1 .1 .1 .1 .0) (c .before .before .before .before .before .before .deliver .last .1 .1 .1 .1 .1 .0))) (c .before .before .before .before .before .before .before .before .before .before .before .before .before .read-block .result) _ _ _ (c .before .before .before .before .before .before .before .before .before .before .before .block .given .1) (c .before .before .before .before .before .before .deliver .ensures) (readAt (a .payload .now) (a .at)) (c .before .before .before .before .before .before .before .before .before .before .before .before .before .read-block .ensures)
 
 returns-2 : tie.Need-returns-2
 returns-2 c =
     let a = c .before .before .before .before .before .before .before .before .before .args in
-    refused-left (a .payload .now) (a .at) (a .rec .now) (a .room .now) (a .out .now) (a .second) (c .nothing .result) (c .before .before .before .before .read-block .result) _ _ (c .before .before .number .given .1) (c .nothing .ensures) (readAt (a .payload .now) (a .at)) (c .before .before .before .before .read-block .ensures)
+    refused-left (a .payload .now) (a .at) (a .rec .now) (a .room .now) (a .out .now) (a .neighbour) (a .second) (c .nothing .result) (c .before .before .before .before .read-block .result) _ _ (c .before .before .number .given .1) (c .nothing .ensures) (readAt (a .payload .now) (a .at)) (c .before .before .before .before .read-block .ensures)
 
 pub receive-spec : {M : Type 1} → statement M
 receive-spec =

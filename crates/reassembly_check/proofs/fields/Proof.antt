@@ -6,10 +6,10 @@ use Rattle.reassembly_check.proofs.fields.Statement.{statement}
 use Rattle.reassembly_check.proofs.fields.Tie as tie
 
 abbrev Inv-loop : tie.InvT-loop
-Inv-loop text from all₀ at₀ i₀ all at i = (i ≤ 13) × (length all ≡ 13)
+Inv-loop text from all₀ at₀ i₀ all at i = (i ≤ 14) × (length all ≡ 14)
 
 abbrev μ-loop : tie.MeasureT-loop
-μ-loop text from all₀ at₀ i₀ all at i = 13 - i
+μ-loop text from all₀ at₀ i₀ all at i = 14 - i
 
 loop-holds : tie.Need-loop-holds Inv-loop μ-loop
 loop-holds c = search needs

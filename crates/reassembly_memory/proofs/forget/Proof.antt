@@ -2,7 +2,7 @@ use native.Mathlib.Omega.{arith}
 use mathlib.Core.Path.{_≡_}
 use Prim.Native.Nat.{_≤_, _-_}
 use lib.ListN.{length}
-use Rattle.reassembly.specs.Sizes.{mostRemembered, recordSize}
+use Rattle.reassembly.specs.Sizes.{mostRemembered, shareSize}
 use Rattle.reassembly.specs.Remembered.{rememberedCount, sifted, siftedTo}
 use Rattle.reassembly_memory.proofs.Branches.{sifted-turn, sifted-end}
 use borrow.Author.Needs.{needs}
@@ -10,7 +10,7 @@ use Rattle.reassembly_memory.proofs.forget.Statement.{statement}
 use Rattle.reassembly_memory.proofs.forget.Tie as tie
 
 abbrev Inv-loop : tie.InvT-loop
-Inv-loop rec₀ second n kept₀ k₀ rec kept k = (k ≤ n) × (n ≤ mostRemembered) × (kept ≤ k) × (length rec ≡ length rec₀) × (recordSize ≤ length rec₀) × (n ≡ rememberedCount rec₀) × (sifted rec kept ≡ siftedTo second rec₀ k)
+Inv-loop rec₀ second n kept₀ k₀ rec kept k = (k ≤ n) × (n ≤ mostRemembered) × (kept ≤ k) × (length rec ≡ length rec₀) × (shareSize ≤ length rec₀) × (n ≡ rememberedCount rec₀) × (sifted rec kept ≡ siftedTo second rec₀ k)
 
 abbrev μ-loop : tie.MeasureT-loop
 μ-loop rec₀ second n kept₀ k₀ rec kept k = n - k

@@ -1,5 +1,5 @@
 use mathlib.Core.Path.{refl}
-use Rattle.reassembly.specs.Calls.{lentShort}
+use Rattle.reassembly.specs.Shares.{lentShort}
 use Rattle.reassembly_store.proofs.is_short.Statement.{statement}
 use Rattle.reassembly_store.proofs.is_short.Tie as tie
 

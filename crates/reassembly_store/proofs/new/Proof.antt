@@ -1,11 +1,11 @@
 use Rattle.reassembly.specs.Sizes.{recordSize}
-use Rattle.reassembly.proofs.Swept.{new-promise}
+use Rattle.reassembly.proofs.NewShares.{new-promise}
 use mathlib.Core.Path.{_≡_, refl}
 use borrow.Author.Tests.{lt-ltb, le-ltb}
 use mathlib.Core.Bool.{true, false}
 use lib.ListN.{length}
 use lib.Dec.{ltb}
-use Rattle.reassembly.specs.Calls.{renewal, renewed}
+use Rattle.reassembly.specs.Shares.{renewal, renewed}
 use borrow.Author.Needs.{needs}
 use Rattle.reassembly_store.proofs.new.Statement.{statement}
 use Rattle.reassembly_store.proofs.new.Tie as tie

@@ -22,7 +22,7 @@ same-length-3 c = search needs
 returns : tie.Need-returns
 returns c =
     let a = c .before .before .before .before .before .before .before .before .before .before .before .before .before .before .before .before .args in
-    call-told (a .payload .now) (a .at) (lent (a .rec .now) (a .room .now) (a .out .now)) (lent (c .before .before .before .before .before .before .before .before .receive .last .1 .1 .0) (c .before .before .before .before .before .before .before .before .receive .last .1 .1 .1 .0) (c .before .before .before .before .before .before .before .before .receive .last .1 .1 .1 .1 .0)) (a .second) (a .told .now) (c .tell .last .1 .0) (c .before .before .before .before .before .before .before .before .receive .result) (c .tell .result) (c .before .before .before .before .before .before .before .before .receive .ensures) (c .tell .ensures .0) (c .tell .ensures .1)
+    call-told (a .payload .now) (a .at) (lent (a .rec .now) (a .room .now) (a .out .now)) (lent (c .before .before .before .before .before .before .before .before .receive .last .1 .1 .0) (c .before .before .before .before .before .before .before .before .receive .last .1 .1 .1 .0) (c .before .before .before .before .before .before .before .before .receive .last .1 .1 .1 .1 .0)) (a .neighbour) (a .second) (a .told .now) (c .tell .last .1 .0) (c .before .before .before .before .before .before .before .before .receive .result) (c .tell .result) (c .before .before .before .before .before .before .before .before .receive .ensures) (c .tell .ensures .0) (c .tell .ensures .1)
 
 pub strawhub-block-deliver-spec : {M : Type 1} → statement M
 strawhub-block-deliver-spec =
