@@ -11,10 +11,8 @@ use borrow.Author.Tests.{ne-eqb, eqb-true}
 use Rattle.wire.specs.Parts.{part, splice}
 use Rattle.wire.proofs.Parts.{part-same}
 use Rattle.blocks.specs.declared.Part.{Part}
-use Rattle.blocks.specs.declared.Block.{Block}
 use Rattle.blocks.specs.declared.Block.the-variants as Body
 use Rattle.blocks.specs.declared.Read.the-variants as Got
-use Rattle.blocks.specs.Reading.{readAt}
 use Rattle.reassembly.specs.declared.Reply.{Reply}
 use Rattle.reassembly.specs.Store.{first, follow, Rebuilt}
 use Rattle.reassembly.specs.Neighbours.{NeighboursAnswer, stepFrom}
@@ -121,9 +119,3 @@ pub whole-shown : (s : List ℕ) (at : ℕ) (rec room out : List ℕ) (n second 
     → messageIn s (deliveredBy s at (lent rec room out) n second (Body.I2np k i x p) .left .out) (deliveredBy s at (lent rec room out) n second (Body.I2np k i x p) .received) ≡ part s (p .start) (p .len)
 unfolding deliveredBy messageIn wholeAt
 whole-shown s at rec room out n second k i x p = refl
-
--- what is delivered at a place is what the block that is read there delivers
-pub read-delivers : (s : List ℕ) (at : ℕ) (rec room out : List ℕ) (n second : ℕ) (b : Block) (size next : ℕ) → readAt s at ≡ Got.Block b size next
-    → delivered s at (lent rec room out) n second (readAt s at) ≡ deliveredBy s at (lent rec room out) n second b
-unfolding delivered
-read-delivers s at rec room out n second b size next e = ap (delivered s at (lent rec room out) n second) e

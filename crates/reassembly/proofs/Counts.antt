@@ -9,11 +9,10 @@ use native.Mathlib.Omega.{arith}
 use lib.ListN.{length, getD, set, replicate, length-set, length-map}
 use borrow.Author.Tests.{le-leb}
 use Rattle.reassembly.specs.Ages.{longAgo}
-use Rattle.reassembly.specs.Memory.{remembers}
-use Rattle.reassembly.specs.Store.{Piece, idOf, numberOf, Message, Slots, Store, Answer, SlotsAnswer, findFree, slotOf, messageOr, badLength, badNumber, repeats, clashes, slotsRefuse, answer, slotsStep, refused, step, sweptOne, slotsSweep}
+use Rattle.reassembly.specs.Store.{Piece, idOf, numberOf, Message, Slots, Store, Answer, SlotsAnswer, findFree, slotOf, messageOr, repeats, clashes, slotsRefuse, answer, slotsStep, refused, step, sweptOne, slotsSweep}
 use Rattle.reassembly.specs.Neighbours.{isOpenIn, openOf, droppedOf, recounted}
 use Rattle.reassembly.proofs.Stores.{Blank, message-new, no-repeat, no-clash, step-is}
-use Rattle.reassembly.proofs.Moves.{open-hit, shut-free, shut-none, Moved, stayed, kept, finished, moved, step-slots, Stepped, is-50, is-51, is-57, by-slots, stepped}
+use Rattle.reassembly.proofs.Moves.{open-hit, shut-free, shut-none, Moved, stayed, kept, finished, moved, Stepped, is-50, is-51, is-57, by-slots, stepped}
 
 -- No more are open than there are slots.
 pub open-most : (s : Slots) → openOf s ≤ length s
@@ -166,9 +165,3 @@ full-52 cap s p second o h =
 
     refusal : answer cap s p (findFree s) (messageOr none (idOf p) second) ≡ slotsRefuse 52 s
     refusal = unfold answer in rw (nr, nc, le-leb (length s) (findFree s) (full-shut s h)) refl
-
--- So it is of the store, past 50, 51 and 57.
-pub full-step-52 : (keep cap : ℕ) (s : Store) (p : Piece) (second : ℕ) → badLength p ≡ false → badNumber p ≡ false → remembers (s .remembered) (idOf p) ≡ false
-    → isOpenIn (idOf p) (s .slots) ≡ false → length (s .slots) ≤ openOf (s .slots) → step keep cap s p second ≡ refused 52 s
-full-step-52 keep cap s p second gl gn r o h =
-    step-slots keep cap s p second gl gn r ∙ rw (full-52 cap (s .slots) p second o h) (unfold slotsRefuse in refl)

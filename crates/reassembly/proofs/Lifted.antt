@@ -1,12 +1,10 @@
 -- A piece's call did to a neighbour's share what its store answers: then it did to record and room what the store of four neighbours answers. Assumes nothing.
 use mathlib.Core.Path.{_≡_, refl, sym, ap, _∙_}
 use mathlib.Core.List.{List}
-use mathlib.Core.Option.{none}
 use Prim.Native.Nat.{ℕ, _≤_, _<_}
 use native.Mathlib.Omega.{arith}
 use native.Mathlib.Decide.{ℕ-discrete}
 use lib.ListN.{length, set}
-use borrow.Author.Tests.{lt-ltb, le-ltb}
 use Rattle.wire.specs.Series.{series}
 use Rattle.wire.proofs.Series.{getD-series, series-set}
 use Rattle.reassembly.specs.Sizes.{shareRoom, mostRemembered, shareSize}
@@ -18,6 +16,7 @@ use Rattle.reassembly.specs.Shares.{shareOf, withShare, shareOfRoom, wit
 use Rattle.reassembly.specs.Stands.{stands, Made, replyFor, laidOut, Agrees}
 use Rattle.reassembly.specs.Standing.{storeAt, summaryAt, neighboursOf, AllMade, AllAgree}
 use Rattle.reassembly.proofs.Shares.{share-put-length, share-same, share-other, room-put-length, room-same, room-other}
+use Rattle.reassembly.proofs.Neighbours as Four
 use Rattle.reassembly.proofs.GivenBack.{not-short, from-58, from-taken}
 
 -- ---- the store of four neighbours, read
@@ -41,14 +40,9 @@ made-count rec room made n one = made .shares n one .counted
 module _ (cap : ℕ) (rec room : List ℕ) (n : ℕ) (p : Piece) (second : ℕ) where
   pub step-from : n ≤ 3 → stepFrom cap (neighboursOf rec room) n p second
       ≡ answerFrom (neighboursOf rec room) n (isOpenIn (idOf p) (storeAt rec room n .slots)) (step mostRemembered cap (storeAt rec room n) p second)
-  unfolding stepFrom
   step-from h =
-      rw (le-ltb 3 n h)
-      (ap (λ (s : Store). answerFrom (neighboursOf rec room) n (isOpenIn (idOf p) (s .slots)) (step mostRemembered cap s p second)) (store-of rec room n (omega arith)))
-
-  pub step-58 : 3 < n → stepFrom cap (neighboursOf rec room) n p second ≡ record { number = 58; out = none; left = neighboursOf rec room }
-  unfolding stepFrom
-  step-58 h = rw (lt-ltb 3 n h) refl
+      Four.from-own cap (neighboursOf rec room) n p second (omega arith)
+      ∙ (ap (λ (s : Store). answerFrom (neighboursOf rec room) n (isOpenIn (idOf p) (s .slots)) (step mostRemembered cap s p second)) (store-of rec room n (omega arith)))
 
 -- ---- 58
 
@@ -56,7 +50,7 @@ pub lifted-58 : (rec room out : List ℕ) → AllMade rec room → (n : ℕ) →
     → AllAgree out (fromNeighbour (lent rec room out) n y) (stepFrom (length out) (neighboursOf rec room) n p second)
 unfolding replyFor laidOut
 lifted-58 rec room out made n h p second y =
-    rw (from-58 (lent rec room out) n y (not-short rec room (made .record-long) (made .room-long)) h, step-58 (length out) rec room n p second h)
+    rw (from-58 (lent rec room out) n y (not-short rec room (made .record-long) (made .room-long)) h, Four.from-58 (length out) (neighboursOf rec room) n p second (omega arith))
     (record { reply = refl; delivered = refl; store = refl; made = made })
 
 -- ---- a share put back

@@ -5,10 +5,9 @@ use mathlib.Core.Bool.{Bool, true, false, cond}
 use mathlib.Core.List.{List}
 use Prim.Native.Nat.{ℕ, _+_, _≤_, _<_}
 use native.Mathlib.Omega.{arith}
-use lib.Dec.{eqb, ltb, leb}
+use lib.Dec.{eqb, ltb}
 use lib.ListN.{length}
-use borrow.Author.Tests.{eqb-true, ltb-true, ltb-false, leb-false}
-use Rattle.wire.proofs.Tests.{or-neither}
+use borrow.Author.Tests.{eqb-true, ltb-true, ltb-false}
 use Rattle.reassembly.specs.Sizes.{messageSize}
 use Rattle.reassembly.specs.declared.Head.{Head}
 use Rattle.reassembly.specs.declared.Label.{Label}
@@ -17,19 +16,14 @@ use Rattle.reassembly.specs.Record.{headAt, entryAt}
 use Rattle.reassembly.specs.Slots.{firstFrom, isOpenAs, isFree}
 use Rattle.reassembly.specs.Memory.{remembers}
 use Rattle.reassembly.specs.Remembered.{memoryOf}
-use Rattle.reassembly.specs.Summary.{openCount, isFull}
+use Rattle.reassembly.specs.Summary.{isFull}
 use Rattle.reassembly.specs.Judge.{misfits, grownBy, isComplete}
 use Rattle.reassembly.specs.Joining.{messageOf, joinsOutside}
 use Rattle.reassembly.specs.Calls.{Lent, After, after, bare, keptRoom, finished, putIn, added, openedIn, openedNow, rememberedAfter, withRemembered, takenPiece, badSize, offNumber, firstTaken, followOnTaken}
 use Rattle.reassembly.specs.Shares.{lentTo, firstCall, followOnCall}
 use Rattle.reassembly.specs.Careful.{CarefulFirst, CarefulFollowOn}
-use Rattle.reassembly.proofs.Branches.{good-size}
+use Rattle.reassembly.proofs.Branches.{good-size, free-slot}
 use Rattle.reassembly.proofs.CarefulShares.{CarefulOf, careful-from}
-
--- a share that has room by the summary has a free slot
-free-one : (rec : List ℕ) → isFull rec ≡ false → firstFrom (isFree rec) 0 4 < 4
-unfolding isFull
-free-one rec e = leb-false 4 (firstFrom (isFree rec) 0 4) (or-neither (leb 4 (openCount rec)) (leb 4 (firstFrom (isFree rec) 0 4)) e .1)
 
 -- x is a neighbour's share
 module _ (x : Lent) where
@@ -74,7 +68,7 @@ module _ (x : Lent) where
         (λ z. both (isFull (x .rec)) _ _ (λ e. refused (bare 52))
         (λ e. record {
           refusal = inl refl;
-          own-room = inr (record { slot = firstFrom (isFree (x .rec)) 0 4; place = 0; bytes = v; one-of-4 = free-one (x .rec) e; inside = omega arith; put = refl });
+          own-room = inr (record { slot = firstFrom (isFree (x .rec)) 0 4; place = 0; bytes = v; one-of-4 = free-slot (x .rec) e; inside = omega arith; put = refl });
         }))
 
     -- with 60 the summary and the memory change, and nothing else

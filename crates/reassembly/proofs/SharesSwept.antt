@@ -87,10 +87,6 @@ swept-long second rec rec′ h e = rw (le-ltb (length rec) recordSize h) e
 pub shares-more : (second : ℕ) (rec₀ rec rec′ : List ℕ) (n : ℕ) → rec ≡ sharesSwept second rec₀ n → rec′ ≡ withShare rec n (shareSwept second (shareOf rec n)) → rec′ ≡ sharesSwept second rec₀ (n + 1)
 shares-more second rec₀ rec rec′ n e f = rw (add-one n) (f ∙ ap (λ (z : List ℕ). withShare z n (shareSwept second (shareOf z n))) e)
 
--- the shares keep their place meanwhile
-pub shares-length : (second : ℕ) (rec : List ℕ) → recordSize ≤ length rec → (n : ℕ) → n ≤ 4 → length (sharesSwept second rec n) ≡ length rec
-shares-length second rec long n h = walk second rec long n h .as-long
-
 -- ---- what the swept record stands for
 
 module _ (second : ℕ) (rec room : List ℕ) (long : recordSize ≤ length rec) where

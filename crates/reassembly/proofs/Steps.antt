@@ -7,7 +7,7 @@ use Prim.Native.Nat.{ℕ, _+_, _≤_, _<_}
 use native.Mathlib.Omega.{arith}
 use lib.Dec.{eqb, ltb}
 use lib.ListN.{length, getD, set}
-use borrow.Author.Tests.{lt-ltb, le-ltb, ltb-true, ltb-false, le-leb}
+use borrow.Author.Tests.{lt-ltb, le-ltb, ltb-true, ltb-false}
 use Rattle.wire.specs.Parts.{same}
 use Rattle.reassembly.specs.Sizes.{messageSize, shareSize}
 use Rattle.reassembly.specs.declared.Head.{Head}
@@ -213,18 +213,6 @@ module _ (rec room out : List ℕ) (made : SlotsMade rec room) (p : Piece) (seco
       let q : ltb (findId (idOf p) s) (length s) ≡ false = le-ltb (findId (idOf p) s) (length s) (omega (arith, found, four-slots rec room)) in
       rw (q, free-none s, vacant) refl
 
-  step-full : (k : ℕ) → 4 ≤ k → answer (length out) s p k (messageOr none (idOf p) second) ≡ slotsRefuse 52 s
-  unfolding answer
-  step-full k n =
-      let zero-in : 0 < 4 = omega arith in
-      let f₀ : Fine (newHead l second) (cleared rec 0) room 0 = fresh-fine rec room 0 (made .record-long) zero-in l second (fit .id) (fit .second-fits) in
-      let free₀ : isHeld (getD (tableAt (cleared rec 0) room 0) (l .number) []) ≡ false = none-held rec room 0 (made .record-long) zero-in (l .number) in
-      let e : messageOr none (idOf p) second ≡ messageWith (newHead l second) (cleared rec 0) room 0 = fresh-is rec room 0 (made .record-long) zero-in p second in
-      let r : repeats (messageOr none (idOf p) second) p ≡ false = ap (λ (z : Message). repeats z p) e ∙ repeats-free (newHead l second) (cleared rec 0) room 0 f₀ (made .room-long) zero-in p gn free₀ in
-      let c : clashes (messageOr none (idOf p) second) p ≡ false
-      = ap (λ (z : Message). clashes z p) e ∙ clashes-free (newHead l second) (cleared rec 0) room 0 f₀ (made .room-long) zero-in p gn free₀ ∙ fresh-fits l second in
-      rw (r, c, le-leb (length s) k (omega (arith, four-slots rec room))) refl
-
   -- a piece of an open message
   pub added-slots : ltb (firstFrom (isOpenAs rec (l .id)) 0 4) 4 ≡ true
       → SlotsAgree out (added (lent rec room out) (firstFrom (isOpenAs rec (l .id)) 0 4) l v) (slotsStep (length out) s p second)
@@ -234,11 +222,7 @@ module _ (rec room out : List ℕ) (made : SlotsMade rec room) (p : Piece) (seco
       = used-slot (firstFrom (isOpenAs rec (l .id)) 0 4) (first-passes (isOpenAs rec (l .id)) 0 4 (omega arith)) in
       rw (step-open (firstFrom (isOpenAs rec (l .id)) 0 4) refl hk u) (added-agrees (firstFrom (isOpenAs rec (l .id)) 0 4) hk u)
 
-  -- a piece of a message that is not open: 52 where no slot is free,
-  pub full-slots : ltb (firstFrom (isOpenAs rec (l .id)) 0 4) 4 ≡ false → 4 ≤ firstFrom (isFree rec) 0 4 → slotsStep (length out) s p second ≡ slotsRefuse 52 s
-  full-slots e q = step-new (ltb-false (firstFrom (isOpenAs rec (l .id)) 0 4) 4 e) ∙ step-full (firstFrom (isFree rec) 0 4) q
-
-  -- else it is kept in the first that is
+  -- a piece of a message that is not open, where a slot is free
   pub opened-slots : ltb (firstFrom (isOpenAs rec (l .id)) 0 4) 4 ≡ false → firstFrom (isFree rec) 0 4 < 4
       → SlotsAgree out (openedIn (lent rec room out) (firstFrom (isFree rec) 0 4) l second v) (slotsStep (length out) s p second)
   opened-slots e q = rw (step-new (ltb-false (firstFrom (isOpenAs rec (l .id)) 0 4) 4 e)) (opened-agrees (firstFrom (isFree rec) 0 4) q)

@@ -12,7 +12,7 @@ use lib.Seq.{getD-drop, getD-take, ext-getD, length-take-le}
 use borrow.Author.Tests.{eq-eqb, ne-eqb, lt-ltb, le-ltb, le-leb, lt-leb, eqb-true, eqb-false, ltb-true, ltb-false}
 use Rattle.wire.proofs.Same.{eq-same}
 use Rattle.reassembly.specs.Sizes.{messageSize}
-use Rattle.reassembly.specs.Store.{Piece, first, follow, idOf, numberOf, finalOf, pieceBytes, Message, Slots, Store, empty, allHeld, someHeld, total, joined, findId, findFree, slotOf, messageOr, plus, badLength, badNumber, repeats, clashes, tooMuch, complete, rebuiltOf, tooShort, slotsRefuse, answer, slotsStep, step, sweptOne, slotsSweep}
+use Rattle.reassembly.specs.Store.{Piece, first, follow, idOf, numberOf, finalOf, pieceBytes, Message, Slots, Store, allHeld, someHeld, total, joined, findId, findFree, slotOf, messageOr, plus, badLength, badNumber, repeats, clashes, tooMuch, complete, rebuiltOf, tooShort, slotsRefuse, answer, slotsStep, step, sweptOne, slotsSweep}
 use Rattle.reassembly.proofs.Table.{held-of-length, total-set, total-set-le, total-take, length-joined, none-held}
 
 -- ---- the parts of a piece
@@ -34,9 +34,6 @@ pub all-same : {A : Type 0} (n i : ℕ) (d : A) → getD (replicate n d) i d ≡
 all-same zero i d = refl
 all-same (suc n) zero d = refl
 all-same (suc n) (suc i) d = all-same n i d
-
-pub empty-at : (k : ℕ) → getD empty k none ≡ none
-empty-at k = all-same 4 k none
 
 pub none≢some : (o : Option Message) (m : Message) → o ≡ none → o ≡ some m → ⊥
 none≢some o m p q = let z : _≡_ {A = ℕ} 0 1 = cc in omega arith

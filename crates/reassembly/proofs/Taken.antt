@@ -11,7 +11,7 @@ use Rattle.reassembly.specs.Sizes.{mostRemembered, openAt, idsAt, shareS
 use Rattle.reassembly.specs.declared.Label.{Label}
 use Rattle.reassembly.specs.declared.Reply.{Reply}
 use Rattle.reassembly.specs.Memory.{Finished, Memory, remembers, remember}
-use Rattle.reassembly.specs.Store.{Piece, first, follow, idOf, pieceBytes, Store, Answer, SlotsAnswer, badLength, badNumber, slotsRefuse, slotsStep, refused, answerBySlots, step, findFree}
+use Rattle.reassembly.specs.Store.{Piece, first, follow, idOf, pieceBytes, Store, Answer, SlotsAnswer, badLength, badNumber, slotsRefuse, slotsStep, refused, answerBySlots, step}
 use Rattle.reassembly.specs.Apart.{Apart}
 use Rattle.reassembly.specs.Slots.{firstFrom, isOpenAs, isFree}
 use Rattle.reassembly.specs.Remembered.{memoryOf, rememberedIn}
@@ -22,14 +22,14 @@ use Rattle.reassembly.specs.Stands.{slotsOf, stands, SlotsMade, Made, la
 use Rattle.reassembly.proofs.Branches.{free-slot}
 use Rattle.reassembly.proofs.Answers.{label-id, number-small, good-length}
 use Rattle.reassembly.proofs.Refines.{SlotsAgree, number-of, size-of}
-use Rattle.reassembly.proofs.Steps.{PieceInWidth, found-in, four-slots, vacant, added-slots, full-slots, opened-slots}
+use Rattle.reassembly.proofs.Steps.{PieceInWidth, found-in, four-slots, vacant, added-slots, opened-slots}
 use Rattle.reassembly.proofs.MemoryStays.{stays-added, stays-opened}
 use Rattle.reassembly.proofs.Moves.{step-50, step-51, step-57, step-slots}
 use Rattle.reassembly.proofs.Aparts.{step-apart, open-unremembered}
 use Rattle.reassembly.proofs.Remembered.{remembered-behind, remembered-memory, memory-behind}
 use Rattle.reassembly.proofs.Fronts.{Behind, front-slots, front-made}
 use Rattle.reassembly.proofs.Summary.{open-same, open-behind, open-memory, before-open, before-memory, after-open}
-use Rattle.reassembly.proofs.Counts.{full-shut, step-open}
+use Rattle.reassembly.proofs.Counts.{shut-full, full-52, step-open}
 
 -- A call on the share `rec` did what the store's answer says, but for the ids; `was` says that the piece's message was open.
 record Near (rec : List ℕ) (was : Bool) (out : List ℕ) (x : After) (a : Answer) : Type 0 where
@@ -208,17 +208,14 @@ module _ (rec room out : List ℕ) (made : Made rec room) (p : Piece) (second : 
       (stays-added (lent rec room out) (sm .record-long) (sm .room-long) l (number-small p gn) v (firstFrom (isOpenAs rec (l .id)) 0 4) hk .behind)
       l second (fit .id) (fit .second-fits))
 
-  -- where the summary says 4, no slot is free
-  all-used : isFull rec ≡ true → 4 ≤ firstFrom (isFree rec) 0 4
+  -- 52 by the summary, or by the slots: all are in use
+  all-used : isFull rec ≡ true → length (slotsOf rec room) ≤ openOf (slotsOf rec room)
   unfolding isFull
   all-used e = go (leb 4 (openCount rec)) refl e
     where
-      go : (b : Bool) → leb 4 (openCount rec) ≡ b → (b || leb 4 (firstFrom (isFree rec) 0 4)) ≡ true → 4 ≤ firstFrom (isFree rec) 0 4
-      go true q t =
-          let c : 4 ≤ openCount rec = leb-true 4 (openCount rec) q in
-          let f : length (slotsOf rec room) ≤ findFree (slotsOf rec room) = full-shut (slotsOf rec room) (omega (arith, made .counted, four-slots rec room)) in
-          omega (arith, vacant rec room out sm p second gl gn fit, four-slots rec room)
-      go false q t = leb-true 4 (firstFrom (isFree rec) 0 4) t
+      go : (b : Bool) → leb 4 (openCount rec) ≡ b → (b || leb 4 (firstFrom (isFree rec) 0 4)) ≡ true → length (slotsOf rec room) ≤ openOf (slotsOf rec room)
+      go true q t = omega (arith, leb-true 4 (openCount rec) q, made .counted, four-slots rec room)
+      go false q t = shut-full (slotsOf rec room) (omega (arith, leb-true 4 (firstFrom (isFree rec) 0 4) t, vacant rec room out sm p second gl gn fit, four-slots rec room))
 
   near-opened : ltb (firstFrom (isOpenAs rec (l .id)) 0 4) 4 ≡ false → Near rec isOpen out (openedNow (lent rec room out) l second v) (step mostRemembered (length out) s p second)
   unfolding openedNow
@@ -227,7 +224,7 @@ module _ (rec room out : List ℕ) (made : Made rec room) (p : Piece) (second : 
       go : (b : Bool) → remembers (memoryOf rec) (l .id) ≡ b → (c : Bool) → isFull rec ≡ c → Near rec isOpen out (openedNow (lent rec room out) l second v) (step mostRemembered (length out) s p second)
       go true r c w = rw (r, step-57 mostRemembered (length out) s p second gl gn (as-labelled true r)) (near-refused rec room isOpen out 57 sm refl refl)
       go false r true w =
-          rw (r, w, step-labelled r, full-slots rec room out sm p second gl gn fit e (all-used w))
+          rw (r, w, step-labelled r, full-52 (length out) (slotsOf rec room) p second (open-labelled false e) (all-used w))
           (unfold slotsRefuse in near-refused rec room isOpen out 52 sm refl refl)
       go false r false w =
           let few : length v ≤ 1500 = size-of p gl .1 in
