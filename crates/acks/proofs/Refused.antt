@@ -3,14 +3,17 @@ use mathlib.Core.Path.{_≡_, refl, sym, ap, _∙_, subst}
 use mathlib.Core.Logic.{inl, inr}
 use mathlib.Core.Bool.{Bool, true, false, cond}
 use mathlib.Core.List.{List, [], _∷_}
-use Prim.Native.Nat.{ℕ, _+_, _%_, _≤_}
+use Prim.Native.Nat.{ℕ, _+_, _%_, _^_, _≤_, _<_}
 use native.Mathlib.Omega.{arith}
 use lib.Dec.{eqb, ltb, leb}
 use lib.ListN.{length}
 use borrow.Author.Tests.{ltb-true, ltb-false, eqb-true, eqb-false, ne-eqb}
 use types.Run.{OneOf}
 use Rattle.wire.specs.Numbers.{Bytes, littleAt}
+use Rattle.wire.proofs.Numbers.{littleAt-lt}
 use Rattle.blocks.specs.declared.Written.the-variants as Wrote
+use Rattle.blocks.specs.Layout.{fits}
+use Rattle.blocks.specs.Table.{widths}
 use Rattle.blocks.specs.Writing.{writing, roomAfter}
 use Rattle.blocks.proofs.Refused as Blocks
 use Rattle.acks.specs.declared.Tracker.{Tracker}
@@ -19,10 +22,11 @@ use Rattle.acks.specs.History.{answerTo}
 use Rattle.acks.specs.Tracking.{mark, isDuplicate, registerAnswer, registerOf}
 use Rattle.acks.specs.Reporting.{refusedReport, silent, pairBytes, reportOf, ackInfo}
 use Rattle.acks.specs.Recorded.{trackerSize, trackerShort, trackerAt, registerThere, recordAfter, duplicateThere, reportThere}
-use Rattle.acks.specs.AckBlocks.{ackBlock, ackWriting, ackRoom}
+use Rattle.acks.specs.AckBlocks.{ackFieldsOf, ackWriting, ackRoom}
 use Rattle.acks.specs.Runs.{wholePairs, runSum}
 use Rattle.acks.specs.Expanding.{ackNumbers, expandAnswer, goesBelow, expandOf, listAfter}
 use Rattle.acks.proofs.Faithful.{faithful, unheard}
+use Rattle.acks.proofs.Sent.{ack-fields-fit}
 use Rattle.acks.proofs.Recording as Recording
 
 -- a tracker by value
@@ -85,6 +89,15 @@ module _ (top : ℕ) (got : ℕ → Bool) where
       go true e = (faithful top got e .even, faithful top got e .few)
       go false e = let w : _≡_ {A = ℕ} 41 0 = sym (ap (λ (y : AckInfo). y .number) (unheard top got e)) ∙ z in absurd (omega arith)
 
+  -- and of a highest number of four bytes its numbers fit an Ack block
+  is-fitting : reportOf top got .number ≡ 0 → top < 256 ^ 4 → fits (widths 12) (ackFieldsOf (reportOf top got)) ≡ true
+  unfolding refusedReport
+  is-fitting z h = go (got top) refl
+    where
+      go : (b : Bool) → got top ≡ b → fits (widths 12) (ackFieldsOf (reportOf top got)) ≡ true
+      go true e = let f = faithful top got e in ack-fields-fit (reportOf top got) (omega (arith, f .through-is)) (omega (arith, f .adds-up))
+      go false e = let w : _≡_ {A = ℕ} 41 0 = sym (ap (λ (y : AckInfo). y .number) (unheard top got e)) ∙ z in absurd (omega arith)
+
 -- 41 where a tracker reports nothing; 59 too where its record is short
 pub tracker-report : (t : Tracker) → (ackInfo t .number ≡ 0 → ⊥) → ackInfo t .number ≡ 41
 unfolding ackInfo
@@ -113,14 +126,33 @@ pub ack-leaves : (r : AckInfo) (room : List ℕ) (m : ℕ) → ackWriting r (len
 unfolding ackWriting ackRoom
 ack-leaves r room m = go (eqb (r .number) 0)
   where
-    go : (b : Bool) → cond b (writing (ackBlock r) (pairBytes r) (length room)) (Wrote.Refused (r .number)) ≡ Wrote.Refused m → cond b (roomAfter (ackBlock r) (pairBytes r) room) room ≡ room
-    go true e = Blocks.write-leaves (ackBlock r) (pairBytes r) room m e
+    go : (b : Bool) → cond b (writing 12 (ackFieldsOf r) (pairBytes r) (length room)) (Wrote.Refused (r .number)) ≡ Wrote.Refused m → cond b (roomAfter 12 (ackFieldsOf r) (pairBytes r) room) room ≡ room
+    go true e = Blocks.write-leaves 12 (ackFieldsOf r) (pairBytes r) room m e
     go false e = refl
+
+-- and its number is none of success
+pub ack-refused : (r : AckInfo) (room m : ℕ) → ackWriting r room ≡ Wrote.Refused m → m ≡ 0 → ⊥
+unfolding ackWriting
+ack-refused r room m = go (eqb (r .number) 0) refl
+  where
+    never : OneOf (30 ∷ 31 ∷ 32 ∷ []) m → m ≡ 0 → ⊥
+    never (inl e) o = omega arith
+    never (inr (inl e)) o = omega arith
+    never (inr (inr e)) o = omega arith
+
+    go : (b : Bool) → eqb (r .number) 0 ≡ b → cond b (writing 12 (ackFieldsOf r) (pairBytes r) room) (Wrote.Refused (r .number)) ≡ Wrote.Refused m → m ≡ 0 → ⊥
+    go true q e o = never (Blocks.write-numbers 12 (ackFieldsOf r) (pairBytes r) room m e) o
+    go false q e o = let n : r .number ≡ m = cc in eqb-false (r .number) 0 q (n ∙ o)
 
 -- a report's pairs are whole, and at most 127
 pub report-paired : (t : Tracker) → ackInfo t .number ≡ 0 → (length (pairBytes (ackInfo t)) % 2 ≡ 0) × (length (pairBytes (ackInfo t)) ≤ 254)
 unfolding ackInfo
 report-paired t z = is-paired (t .highest) (mark (t .marks)) z
+
+-- and its numbers fit an Ack block
+pub report-fits : (t : Tracker) → ackInfo t .number ≡ 0 → t .highest < 256 ^ 4 → fits (widths 12) (ackFieldsOf (ackInfo t)) ≡ true
+unfolding ackInfo
+report-fits t z h = is-fitting (t .highest) (mark (t .marks)) z h
 
 paired : (r : List ℕ) → reportThere r .number ≡ 0 → (length (pairBytes (reportThere r)) % 2 ≡ 0) × (length (pairBytes (reportThere r)) ≤ 254)
 unfolding reportThere refusedReport
@@ -131,16 +163,25 @@ paired r = by (trackerShort r)
     by true z = absurd (omega arith)
     by false z = report-paired (trackerAt r) z
 
+fitting : (r : List ℕ) → Bytes r → reportThere r .number ≡ 0 → fits (widths 12) (ackFieldsOf (reportThere r)) ≡ true
+unfolding reportThere refusedReport trackerShort trackerAt
+fitting r bytes = by (ltb (length r) trackerSize) refl
+  where
+    by : (b : Bool) → ltb (length r) trackerSize ≡ b → cond b (refusedReport 59) (ackInfo (trackerAt r)) .number ≡ 0 → fits (widths 12) (ackFieldsOf (cond b (refusedReport 59) (ackInfo (trackerAt r)))) ≡ true
+    by true e z = absurd (omega arith)
+    by false e z = let n = ltb-false (length r) trackerSize e in report-fits (trackerAt r) z (littleAt-lt 4 r 0 (omega (arith, n)) bytes)
+
 -- 30, 41 or 59 where the block of a record's report is not written
-pub ack-numbers : (r : List ℕ) (room m : ℕ) → ackWriting (reportThere r) room ≡ Wrote.Refused m → OneOf (30 ∷ 41 ∷ 59 ∷ []) m
-unfolding ackWriting ackBlock
-ack-numbers r room m = go (eqb (reportThere r .number) 0) refl
+pub ack-numbers : (r : List ℕ) (room m : ℕ) → Bytes r → ackWriting (reportThere r) room ≡ Wrote.Refused m → OneOf (30 ∷ 41 ∷ 59 ∷ []) m
+unfolding ackWriting
+ack-numbers r room m bytes = go (eqb (reportThere r .number) 0) refl
   where
     go : (b : Bool) → eqb (reportThere r .number) 0 ≡ b
-        → cond b (writing (ackBlock (reportThere r)) (pairBytes (reportThere r)) room) (Wrote.Refused (reportThere r .number)) ≡ Wrote.Refused m → OneOf (30 ∷ 41 ∷ 59 ∷ []) m
+        → cond b (writing 12 (ackFieldsOf (reportThere r)) (pairBytes (reportThere r)) room) (Wrote.Refused (reportThere r .number)) ≡ Wrote.Refused m → OneOf (30 ∷ 41 ∷ 59 ∷ []) m
     go true q e =
-        let z = paired r (eqb-true (reportThere r .number) 0 q) in
-        inl (Blocks.ack-is-30 (reportThere r .through) (reportThere r .count) (record { start = 0; len = reportThere r .len }) (pairBytes (reportThere r)) room m (z .0) (z .1) e)
+        let n : reportThere r .number ≡ 0 = eqb-true (reportThere r .number) 0 q in
+        let z = paired r n in
+        inl (Blocks.ack-is-30 (ackFieldsOf (reportThere r)) (pairBytes (reportThere r)) room m (fitting r bytes n) (z .0) (z .1) e)
     go false q e =
         let n : reportThere r .number ≡ m = cc in
         inr (subst (OneOf (41 ∷ 59 ∷ [])) n (report-numbers r (eqb-false (reportThere r .number) 0 q)))

@@ -4,8 +4,10 @@ use crate::fields;
 use acks::AckInfo;
 use acks::TRACKER_SIZE;
 use acks::Tracker;
-use blocks::Block;
-use blocks::Read;
+use blocks::ACK;
+use blocks::ACK_COUNT;
+use blocks::ACK_THROUGH;
+use blocks::Extent;
 
 fn duplicate(text: &[u8], at: usize, t: Tracker, bytes: [u8; TRACKER_SIZE]) -> bool {
     let n = fields::number(text, at);
@@ -73,22 +75,17 @@ fn like_oracle(text: &[u8], at: usize, t: Tracker) -> bool {
 // How many numbers an Ack block at a room's start names, into a list; 0 where it is refused or none.
 fn named_in(room: &[u8], list: &mut [u32; 512]) -> usize {
     let read = blocks_reader::read_block(room, 0);
-    let Read::Block {
-        block,
-        size: _,
-        next: _,
-    } = read
-    else {
+    let extent = read.extent;
+    let fields = read.fields;
+    let pairs = read.bytes;
+    let Extent::Ends { kind, .. } = extent else {
         return 0;
     };
-    let Block::Ack {
-        through,
-        count,
-        pairs,
-    } = block
-    else {
+    if kind != ACK {
         return 0;
-    };
+    }
+    let through = (fields[ACK_THROUGH] % 4294967296) as u32;
+    let count = (fields[ACK_COUNT] % 256) as u8;
     acks_expand::expand_ack(room, through, count, pairs, list).count
 }
 

@@ -1,24 +1,22 @@
 // A report written as an Ack block.
 ghost use mathlib.Core.Path.{_≡_};
 ghost use lib.ListN.{length};
-ghost use Rattle.acks.specs.AckBlocks.{ackBlock, ackWriting, ackRoom};
+ghost use Rattle.acks.specs.AckBlocks.{ackFieldsOf, ackWriting, ackRoom};
 use acks::AckInfo;
-use blocks::Block;
-use blocks::Part;
+use blocks::ACK;
+use blocks::ACK_COUNT;
+use blocks::ACK_THROUGH;
 use blocks::Written;
+use blocks_rows::no_fields;
 use wire::shorter;
 
-fn block_of(r: AckInfo) -> Block
-    ensures { λ b. ⌜ b ≡ ackBlock r ⌝ }
+fn fields_of(r: AckInfo) -> [u64; 8]
+    ensures { λ f. ⌜ f ≡ ackFieldsOf r ⌝ }
 {
-    Block::Ack {
-        through: r.through,
-        count: r.count,
-        pairs: Part {
-            start: 0,
-            len: r.len,
-        },
-    }
+    let mut fields = no_fields();
+    fields[ACK_THROUGH] = r.through as u64;
+    fields[ACK_COUNT] = r.count as u64;
+    fields
 }
 
 // To the start of a room. A report that was refused is not written, and its number is the answer.
@@ -31,5 +29,5 @@ pub fn write_ack(report: AckInfo, room: &mut [u8]) -> Written
     if number != 0 {
         return Written::Refused { number };
     }
-    blocks_writer::write_block(block_of(report), &pairs[..len], room)
+    blocks_writer::write_block(ACK, fields_of(report), &pairs[..len], room)
 }

@@ -1,79 +1,67 @@
--- What is shown of reading and writing together.
+-- What is shown of reading and writing together, for every type at once.
 use mathlib.Core.Path.{_≡_}
-use mathlib.Core.List.{List}
-use Prim.Native.Nat.{ℕ, _+_, _-_, _^_, _<_, _≤_}
-use lib.ListN.{length}
+use mathlib.Core.Bool.{cond}
+use mathlib.Core.List.{List, [], _∷_}
+use Prim.Native.Nat.{ℕ, _+_, _-_, _≤_, _<_}
+use lib.Dec.{eqb}
+use lib.ListN.{length, getD, take}
 use Rattle.wire.specs.Parts.{part, splice}
 use Rattle.wire.specs.Numbers.{Bytes}
-use Rattle.blocks.specs.declared.Block.{Block}
-use Rattle.blocks.specs.declared.Block.the-variants as Body
-use Rattle.blocks.specs.declared.Read.the-variants as Got
+use Rattle.blocks.specs.declared.Extent.the-variants as End
+use Rattle.blocks.specs.declared.Read.{Read}
 use Rattle.blocks.specs.declared.Written.the-variants as Wrote
-use Rattle.blocks.specs.Reading.{bytesAt, readAt, partOf}
-use Rattle.blocks.specs.Writing.{fieldLength, carriedBytes, sizeOf, writing, roomAfter}
+use Rattle.blocks.specs.Layout.{eight}
+use Rattle.blocks.specs.Table.{widths, fieldLength}
+use Rattle.blocks.specs.Reading.{bytesAfter, blockRead, readAt}
+use Rattle.blocks.specs.Writing.{carriedBytes, sizeOf, writing, roomAfter}
+use Rattle.blocks.specs.Numbers.{asNumbers, readNumbers, writingBy, roomBy}
 
--- every number of a block fits its bytes, as it does in a value of the program
-abbrev pub BlockInWidth : Block → Type 0
-BlockInWidth (Body.DateTime t) = t < 256 ^ 4
-BlockInWidth (Body.Options a b c d e f g h) = (e < 256 ^ 2) × (f < 256 ^ 2) × (g < 256 ^ 2) × (h < 256 ^ 2)
-BlockInWidth (Body.RouterInfo f g p) = Unit
-BlockInWidth (Body.I2np k i x p) = (i < 256 ^ 4) × (x < 256 ^ 4)
-BlockInWidth (Body.FirstFragment k i x p) = (i < 256 ^ 4) × (x < 256 ^ 4)
-BlockInWidth (Body.FollowOnFragment n l i p) = i < 256 ^ 4
-BlockInWidth (Body.Termination n r) = n < 256 ^ 8
-BlockInWidth (Body.Ack t n p) = t < 256 ^ 4
-BlockInWidth (Body.Address o p) = o < 256 ^ 2
-BlockInWidth Body.RelayTagRequest = Unit
-BlockInWidth (Body.RelayTag t) = t < 256 ^ 4
-BlockInWidth (Body.NewToken x t) = (x < 256 ^ 4) × (t < 256 ^ 8)
-BlockInWidth (Body.PathChallenge p) = Unit
-BlockInWidth (Body.PathResponse p) = Unit
-BlockInWidth (Body.FirstPacketNumber n) = n < 256 ^ 4
-BlockInWidth (Body.Congestion f) = Unit
-BlockInWidth (Body.Padding p) = Unit
-BlockInWidth (Body.Opaque k p) = Unit
+-- of eight numbers those of a type's fields, 0 for the others
+unfoldable pub ownFields : ℕ → List ℕ → List ℕ
+ownFields kind fields = eight (take (length (widths kind)) fields)
 
--- a block whose n bytes stand where the writer puts them
-abbrev pub placed : Block → ℕ → Block
-placed (Body.DateTime t) n = Body.DateTime t
-placed (Body.Options a b c d e f g h) n = Body.Options a b c d e f g h
-placed (Body.RouterInfo f g p) n = Body.RouterInfo f g (bytesAt 5 n)
-placed (Body.I2np k i x p) n = Body.I2np k i x (bytesAt 12 n)
-placed (Body.FirstFragment k i x p) n = Body.FirstFragment k i x (bytesAt 12 n)
-placed (Body.FollowOnFragment m l i p) n = Body.FollowOnFragment m l i (bytesAt 8 n)
-placed (Body.Termination m r) n = Body.Termination m r
-placed (Body.Ack t m p) n = Body.Ack t m (bytesAt 8 n)
-placed (Body.Address o p) n = Body.Address o (bytesAt 5 n)
-placed Body.RelayTagRequest n = Body.RelayTagRequest
-placed (Body.RelayTag t) n = Body.RelayTag t
-placed (Body.NewToken x t) n = Body.NewToken x t
-placed (Body.PathChallenge p) n = Body.PathChallenge (bytesAt 3 n)
-placed (Body.PathResponse p) n = Body.PathResponse (bytesAt 3 n)
-placed (Body.FirstPacketNumber m) n = Body.FirstPacketNumber m
-placed (Body.Congestion f) n = Body.Congestion f
-placed (Body.Padding p) n = Body.Padding (bytesAt 3 n)
-placed (Body.Opaque k p) n = Body.Opaque k (bytesAt 3 n)
-
--- a block that the writer takes, read where it was written, is that block, with the size that was put; its bytes are those lent
+-- a block that the writer takes, read where it was written: its type, the size that was put, its fields; its bytes are those lent
 abbrev pub WriteThenRead : Type 0
 WriteThenRead =
-    (b : Block) (body room : List ℕ) (n : ℕ)
-    → BlockInWidth b
-    → writing b body (length room) ≡ Wrote.Length n
-    → (readAt (roomAfter b body room) 0 ≡ Got.Block (placed b (length body)) (sizeOf b body) n)
-    × (part (roomAfter b body room) (3 + fieldLength b) (length (carriedBytes b body)) ≡ carriedBytes b body)
+    (kind : ℕ) (fields body room : List ℕ) (n : ℕ)
+    → kind < 256
+    → writing kind fields body (length room) ≡ Wrote.Length n
+    → (readAt (roomAfter kind fields body room) 0 ≡ blockRead kind (sizeOf kind body) n (ownFields kind fields) (bytesAfter kind 3 (sizeOf kind body)))
+    × (part (roomAfter kind fields body room) (3 + fieldLength kind) (length (carriedBytes kind body)) ≡ carriedBytes kind body)
 
 -- the bytes of a payload that a block shows
-abbrev pub shownBytes : List ℕ → Block → List ℕ
-shownBytes s b = part s (partOf b .start) (partOf b .len)
+abbrev pub shownBytes : List ℕ → Read → List ℕ
+shownBytes s r = part s (r .bytes .start) (r .bytes .len)
 
--- a block that was read, written with the bytes that it shows, is the same bytes again, where its size is what the writer puts
+-- a block that was read, written with its fields and the bytes that it shows, is the same bytes again, where its size is what the writer puts
 abbrev pub ReadThenWrite : Type 0
 ReadThenWrite =
-    (s room : List ℕ) (at z next : ℕ) (b : Block)
+    (s room : List ℕ) (at kind size next : ℕ)
     → Bytes s
-    → readAt s at ≡ Got.Block b z next
-    → z ≡ sizeOf b (shownBytes s b)
+    → readAt s at .extent ≡ End.Ends kind size next
+    → size ≡ sizeOf kind (shownBytes s (readAt s at))
     → next - at ≤ length room
-    → (writing b (shownBytes s b) (length room) ≡ Wrote.Length (next - at))
-    × (roomAfter b (shownBytes s b) room ≡ splice room 0 (part s at (next - at)))
+    → (writing kind (readAt s at .fields) (shownBytes s (readAt s at)) (length room) ≡ Wrote.Length (next - at))
+    × (roomAfter kind (readAt s at .fields) (shownBytes s (readAt s at)) room ≡ splice room 0 (part s at (next - at)))
+
+-- eight numbers as reading gives them: 0 for what a type does not have, and 1 for a mark that is set
+unfoldable pub numbersBack : ℕ → List ℕ → List ℕ
+numbersBack kind v = cond (eqb kind 5) (eight (getD v 0 0 ∷ cond (eqb (getD v 1 0) 0) 0 1 ∷ getD v 2 0 ∷ [])) (ownFields kind v)
+
+-- a block that is written by numbers is read by the same numbers
+abbrev pub NumbersBack : Type 0
+NumbersBack =
+    (kind : ℕ) (v body room out : List ℕ) (n : ℕ)
+    → kind < 256
+    → writingBy kind v body (length room) ≡ Wrote.Length n
+    → readNumbers (readAt (roomBy kind v body room) 0) out
+    ≡ kind ∷ sizeOf kind body ∷ bytesAfter kind 3 (sizeOf kind body) .start ∷ bytesAfter kind 3 (sizeOf kind body) .len ∷ numbersBack kind v
+
+-- and the numbers of a block that was read are written as its fields are
+abbrev pub NumbersAgain : Type 0
+NumbersAgain =
+    (s body room : List ℕ) (at kind size next : ℕ)
+    → Bytes s
+    → readAt s at .extent ≡ End.Ends kind size next
+    → (writingBy kind (asNumbers kind (readAt s at .fields)) body (length room) ≡ writing kind (readAt s at .fields) body (length room))
+    × (roomBy kind (asNumbers kind (readAt s at .fields)) body room ≡ roomAfter kind (readAt s at .fields) body room)

@@ -1,5 +1,5 @@
 -- Where a block ends: how many bytes its body takes, or the number of the refusal, by type.
-use mathlib.Core.Bool.{Bool, cond, _&&_, _||_}
+use mathlib.Core.Bool.{Bool, cond, not, _&&_, _||_}
 use mathlib.Core.List.{List}
 use Prim.Native.Nat.{ℕ, _+_, _-_, _%_}
 use lib.Dec.{ltb, leb, eqb}
@@ -9,6 +9,7 @@ use Rattle.blocks.specs.declared.Taken.{Taken}
 use Rattle.blocks.specs.declared.Taken.the-variants as Take
 use Rattle.blocks.specs.declared.Extent.{Extent}
 use Rattle.blocks.specs.declared.Extent.the-variants as End
+use Rattle.blocks.specs.Table.{afterFields, fieldLength, carries}
 
 -- a number between two, both included
 abbrev pub between : ℕ → ℕ → ℕ → Bool
@@ -22,7 +23,7 @@ isI2npType t = (between 1 3 t || between 10 11 t) || between 18 26 t
 abbrev pub takesBytes : ℕ → ℕ → Taken
 takesBytes need there = cond (leb need there) (Take.Bytes need) (Take.Refused 1)
 
--- size, but no less than the fields: what Options and Termination take
+-- size, but no less than the fields
 abbrev pub atLeast : ℕ → ℕ → ℕ
 atLeast fields size = cond (leb fields size) size fields
 
@@ -68,43 +69,24 @@ address size there =
     (cond (eqb size 18) (takesBytes 18 there)
     (Take.Refused 8)))
 
--- what the body at a place takes, by type: 0, 15, 16, 17, 20 and 21 their bytes whatever the size says; every type that is not listed here size bytes
+-- the types that read their fields whatever the size says: those that nothing follows, but for Options and Termination
+unfoldable pub ignoresSize : ℕ → Bool
+ignoresSize kind = not (carries (afterFields kind) || (eqb kind 1 || eqb kind 6))
+
+-- what a body takes that its size alone does not refuse: its fields, or its size, but no less than its fields
+unfoldable pub plainLength : ℕ → ℕ → ℕ
+plainLength kind size = cond (ignoresSize kind) (fieldLength kind) (atLeast (fieldLength kind) size)
+
+-- what the body at a place takes: six types by tests of their own, every other by the table
 unfoldable pub takenAt : List ℕ → ℕ → ℕ → ℕ → Taken
 takenAt s body kind size =
-    cond (eqb kind 0) (takesBytes 4 (length s - body))
-    (cond (eqb kind 1) (takesBytes (atLeast 12 size) (length s - body))
-    (cond (eqb kind 2) (routerInfo size (length s - body))
+    cond (eqb kind 2) (routerInfo size (length s - body))
     (cond (eqb kind 3) (i2np s body size)
     (cond (eqb kind 4) (firstFragment s body size)
     (cond (eqb kind 5) (followOn size (length s - body))
-    (cond (eqb kind 6) (takesBytes (atLeast 9 size) (length s - body))
     (cond (eqb kind 12) (takesBytes (5 + pairBytesIn size) (length s - body))
     (cond (eqb kind 13) (address size (length s - body))
-    (cond (eqb kind 15) (takesBytes 0 (length s - body))
-    (cond (eqb kind 16) (takesBytes 4 (length s - body))
-    (cond (eqb kind 17) (takesBytes 12 (length s - body))
-    (cond (eqb kind 20) (takesBytes 4 (length s - body))
-    (cond (eqb kind 21) (takesBytes 1 (length s - body))
-    (takesBytes size (length s - body)))))))))))))))
-
--- the bytes of the fields that a body of a type begins with
-unfoldable pub fieldLengthOf : ℕ → ℕ
-fieldLengthOf kind =
-    cond (eqb kind 0) 4
-    (cond (eqb kind 1) 12
-    (cond (eqb kind 2) 2
-    (cond (eqb kind 3) 9
-    (cond (eqb kind 4) 9
-    (cond (eqb kind 5) 5
-    (cond (eqb kind 6) 9
-    (cond (eqb kind 12) 5
-    (cond (eqb kind 13) 2
-    (cond (eqb kind 15) 0
-    (cond (eqb kind 16) 4
-    (cond (eqb kind 17) 12
-    (cond (eqb kind 20) 4
-    (cond (eqb kind 21) 1
-    0)))))))))))))
+    (takesBytes (plainLength kind size) (length s - body)))))))
 
 -- the type byte of the block at a place
 abbrev pub kindAt : List ℕ → ℕ → ℕ

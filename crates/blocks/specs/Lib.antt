@@ -1,6 +1,11 @@
--- What the contracts of `blocks_extents`, `blocks_sound`, `blocks_reader`, `blocks_fields` and `blocks_writer` cite.
+-- What the contracts of the crates over blocks cite.
+pub mod Layout
+pub mod Table
+pub mod Packed
+pub mod Names
 pub mod Extent
 pub mod Sound
 pub mod Reading
 pub mod Writing
+pub mod Numbers
 pub mod Claims

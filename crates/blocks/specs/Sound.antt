@@ -4,24 +4,16 @@ use mathlib.Core.List.{List}
 use Prim.Native.Nat.{ℕ, _+_, _%_}
 use lib.Dec.{ltb, leb, eqb}
 use lib.ListN.{getD}
-use Rattle.blocks.specs.Extent.{isI2npType, atLeast}
+use Rattle.blocks.specs.Table.{fieldLength}
+use Rattle.blocks.specs.Extent.{between, isI2npType, atLeast, ignoresSize}
 
--- the fewest bytes of a body, by type
+-- the types whose body is as long as the size says or is refused
+unfoldable pub isSized : ℕ → Bool
+isSized kind = between 2 5 kind || eqb kind 13
+
+-- the fewest bytes of a body that is not refused by its size
 unfoldable pub floorOf : ℕ → ℕ
-floorOf kind =
-    cond (eqb kind 0) 4
-    (cond (eqb kind 1) 12
-    (cond (eqb kind 6) 9
-    (cond (eqb kind 12) 5
-    (cond (eqb kind 16) 4
-    (cond (eqb kind 17) 12
-    (cond (eqb kind 20) 4
-    (cond (eqb kind 21) 1
-    0)))))))
-
--- the types whose size is not looked at
-unfoldable pub ignoresSize : ℕ → Bool
-ignoresSize kind = ((((eqb kind 0 || eqb kind 15) || eqb kind 16) || eqb kind 17) || eqb kind 20) || eqb kind 21
+floorOf kind = cond (isSized kind) 0 (fieldLength kind)
 
 -- the size as far as it counts: an Ack's only if its pairs are whole
 unfoldable pub counted : ℕ → ℕ → ℕ

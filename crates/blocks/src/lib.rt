@@ -1,108 +1,59 @@
-// SSU2 blocks: their bodies as values, and what came of reading and writing them. No code: the definitions and their laws, for the crates that read and write.
+// SSU2 blocks: the table of their bodies, and what came of reading and writing them. No code: the definitions and their laws, for the crates that read and write.
 // Bytes of the payload: where they start, and how many they are.
 pub struct Part {
     pub start: usize,
     pub len: usize,
 }
 
-// A block's body, by its type.
-pub enum Block {
-    DateTime {
-        time: u32,
-    },
-    Options {
-        t_min: u8,
-        t_max: u8,
-        r_min: u8,
-        r_max: u8,
-        t_dmy: u16,
-        r_dmy: u16,
-        t_delay: u16,
-        r_delay: u16,
-    },
-    RouterInfo {
-        flag: u8,
-        frag: u8,
-        bytes: Part,
-    },
-    I2np {
-        kind: u8,
-        id: u32,
-        expiration: u32,
-        bytes: Part,
-    },
-    FirstFragment {
-        kind: u8,
-        id: u32,
-        expiration: u32,
-        bytes: Part,
-    },
-    FollowOnFragment {
-        number: u8,
-        last: bool,
-        id: u32,
-        bytes: Part,
-    },
-    Termination {
-        count: u64,
-        reason: u8,
-    },
-    Ack {
-        through: u32,
-        count: u8,
-        pairs: Part,
-    },
-    Address {
-        port: u16,
-        ip: Part,
-    },
-    RelayTagRequest,
-    RelayTag {
-        tag: u32,
-    },
-    NewToken {
-        expires: u32,
-        token: u64,
-    },
-    PathChallenge {
-        bytes: Part,
-    },
-    PathResponse {
-        bytes: Part,
-    },
-    FirstPacketNumber {
-        number: u32,
-    },
-    Congestion {
-        flag: u8,
-    },
-    Padding {
-        bytes: Part,
-    },
-    // Any other type.
-    Opaque {
-        kind: u8,
-        bytes: Part,
-    },
+// Types that a caller asks for by name.
+pub const I2NP: u8 = 3;
+
+pub const FIRST_FRAGMENT: u8 = 4;
+
+pub const FOLLOW_ON_FRAGMENT: u8 = 5;
+
+pub const ACK: u8 = 12;
+
+// Their fields, among a block's eight numbers. A follow-on's first byte is number * 2 + last.
+pub const MESSAGE_TYPE: usize = 0;
+
+pub const MESSAGE_ID: usize = 1;
+
+pub const MESSAGE_EXPIRATION: usize = 2;
+
+pub const FOLLOW_ON_BYTE: usize = 0;
+
+pub const FOLLOW_ON_ID: usize = 1;
+
+pub const ACK_THROUGH: usize = 0;
+
+pub const ACK_COUNT: usize = 1;
+
+// What follows the fields of a body.
+pub enum After {
+    // Nothing.
+    Nothing,
+    // Bytes, as many as there are.
+    Any,
+    // Bytes, one or more.
+    Some,
+    // Pairs of bytes.
+    Pairs,
+    // The 4 or 16 bytes of an IP.
+    Ip,
 }
 
-// What reading a block gives: its body, the size field as it stands and the place after it; or a refusal, at the block's type byte.
-pub enum Read {
-    Block {
-        block: Block,
-        size: u16,
-        next: usize,
-    },
-    Refused {
-        number: u32,
-        place: usize,
-    },
-}
-
-// The same without the body.
+// Where a block ends: its type, its size field as it stands and the place after it; or a refusal, at the block's type byte.
 pub enum Extent {
     Ends { kind: u8, size: u16, next: usize },
     Refused { number: u32, place: usize },
+}
+
+// What reading a block gives: where it ends, or its refusal; its fields in 01's order, 0 where a type has fewer than eight; the bytes after them.
+pub struct Read {
+    pub extent: Extent,
+    pub fields: [u64; 8],
+    pub bytes: Part,
 }
 
 // How many bytes of a payload a body takes, or why it cannot.

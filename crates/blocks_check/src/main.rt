@@ -1,6 +1,6 @@
 // Replays a list of payloads: a line is a payload in hex and how many records its list holds. Prints counts by type and by refusal.
-use blocks::Block;
-use blocks::Read;
+use blocks::Extent;
+use blocks::Part;
 use blocks::Written;
 use libc::STDIN_FILENO;
 use libc::STDOUT_FILENO;
@@ -80,10 +80,17 @@ fn shown(payload: &[u8], start: usize, len: usize) -> &[u8] {
 }
 
 // Writes a block again and says which place of the tally that belongs to.
-fn again(payload: &[u8], place: usize, block: Block, next: usize, room: &mut [u8]) -> usize {
-    let part = blocks_reader::part_of(block);
-    let body = shown(payload, part.start, part.len);
-    let Written::Length { count } = blocks_writer::write_block(block, body, room) else {
+fn again(
+    payload: &[u8],
+    place: usize,
+    kind: u8,
+    fields: [u64; 8],
+    bytes: Part,
+    next: usize,
+    room: &mut [u8],
+) -> usize {
+    let body = shown(payload, bytes.start, bytes.len);
+    let Written::Length { count } = blocks_writer::write_block(kind, fields, body, room) else {
         return DIFFERS;
     };
     if next < place {
@@ -95,22 +102,18 @@ fn again(payload: &[u8], place: usize, block: Block, next: usize, room: &mut [u8
     OTHERWISE
 }
 
-fn type_at(payload: &[u8], place: usize) -> usize {
-    if place < payload.len() {
-        return wide(payload[place]);
-    }
-    0
-}
-
 // Counts the block at a place, and gives the place after it.
 fn block(payload: &[u8], place: usize, room: &mut [u8], tally: &mut [u64]) -> usize {
-    let Read::Block { block, size, next } = blocks_reader::read_block(payload, place) else {
+    let read = blocks_reader::read_block(payload, place);
+    let extent = read.extent;
+    let fields = read.fields;
+    let bytes = read.bytes;
+    let Extent::Ends { kind, size, next } = extent else {
         return payload.len();
     };
-    let kind = type_at(payload, place);
-    add(tally, 0, kind, 1);
-    add(tally, SIZES, kind, size as u64);
-    let which = again(payload, place, block, next, room);
+    add(tally, 0, wide(kind), 1);
+    add(tally, SIZES, wide(kind), size as u64);
+    let which = again(payload, place, kind, fields, bytes, next, room);
     add(tally, OTHERS, which, 1);
     next
 }

@@ -1,18 +1,22 @@
 // Where a block ends: the tests of a body, by family, and their refusals.
 use blocks::Extent;
 use blocks::Taken;
+use blocks_rows::carries_bytes;
+use blocks_rows::length_of;
+use blocks_rows::row_of;
 use wire::usize_from_u16;
 use wire_numbers::be_u16;
 ghost use mathlib.Core.Path.{_≡_};
 ghost use Prim.Native.Nat.{_+_, _<_, _≤_};
 ghost use lib.ListN.{length};
-ghost use Rattle.blocks.specs.Extent.{isI2npType, atLeast, pairBytesIn, takesBytes, routerInfo, i2np, firstFragment, followOn, address, takenAt, extentAt};
+ghost use Rattle.blocks.specs.Packed.{rowNumber};
+ghost use Rattle.blocks.specs.Extent.{isI2npType, atLeast, pairBytesIn, takesBytes, routerInfo, i2np, firstFragment, followOn, address, ignoresSize, plainLength, takenAt, extentAt};
 
 // Whether a number is the type of an I2NP message.
-pub fn is_listed(kind: u8) -> bool
-    ensures { λ r. ⌜ r ≡ isI2npType kind ⌝ }
+pub fn is_listed(x: u64) -> bool
+    ensures { λ r. ⌜ r ≡ isI2npType x ⌝ }
 {
-    ((1 <= kind) & (kind <= 3)) | ((10 <= kind) & (kind <= 11)) | ((18 <= kind) & (kind <= 26))
+    ((1 <= x) & (x <= 3)) | ((10 <= x) & (x <= 11)) | ((18 <= x) & (x <= 26))
 }
 
 // A body of `need` bytes, if as many are there; else 1.
@@ -25,7 +29,7 @@ fn takes_bytes(need: usize, there: usize) -> Taken
     Taken::Refused { number: 1 }
 }
 
-// What Options and Termination take: size, but no less than their fields.
+// Size, but no less than the fields.
 pub fn at_least(fields: usize, size: usize) -> usize
     ensures { λ r. ⌜ r ≡ atLeast fields size ⌝ }
 {
@@ -56,7 +60,7 @@ fn i2np(payload: &[u8], body: usize, size: usize) -> Taken
     if there < 9 {
         return Taken::Refused { number: 1 };
     }
-    if is_listed(payload[body]) {
+    if is_listed(payload[body] as u64) {
         return takes_bytes(size, there);
     }
     Taken::Refused { number: 3 }
@@ -70,7 +74,7 @@ fn first_fragment(payload: &[u8], body: usize, size: usize) -> Taken
     if there < 9 {
         return Taken::Refused { number: 1 };
     }
-    if !is_listed(payload[body]) {
+    if !is_listed(payload[body] as u64) {
         return Taken::Refused { number: 3 };
     }
     if size <= 9 {
@@ -126,6 +130,26 @@ fn address(size: usize, there: usize) -> Taken
     Taken::Refused { number: 8 }
 }
 
+// Whether a type reads its fields whatever the size says.
+fn ignores_size(kind: u8, row: u64) -> bool
+    requires { ⌜ row ≡ rowNumber kind ⌝ }
+    ensures { λ r. ⌜ r ≡ ignoresSize kind ⌝ }
+{
+    !(carries_bytes(kind, row) | ((kind == 1) | (kind == 6)))
+}
+
+// What a body takes that its size alone does not refuse.
+fn plain_length(kind: u8, size: usize) -> usize
+    ensures { λ r. ⌜ r ≡ plainLength kind size ⌝ }
+{
+    let row = row_of(kind);
+    let fields = length_of(kind, row);
+    if ignores_size(kind, row) {
+        return fields;
+    }
+    at_least(fields, size)
+}
+
 // The bytes that the body at a place takes.
 fn taken_at(payload: &[u8], body: usize, kind: u8, size: usize) -> Taken
     requires { ⌜ (body ≤ length (now payload)) × (size < 65536) ⌝ }
@@ -133,21 +157,13 @@ fn taken_at(payload: &[u8], body: usize, kind: u8, size: usize) -> Taken
 {
     let there = payload.len() - body;
     match kind {
-        0 => takes_bytes(4, there),
-        1 => takes_bytes(at_least(12, size), there),
         2 => router_info(size, there),
         3 => i2np(payload, body, size),
         4 => first_fragment(payload, body, size),
         5 => follow_on(size, there),
-        6 => takes_bytes(at_least(9, size), there),
         12 => takes_bytes(5 + pair_bytes_in(size), there),
         13 => address(size, there),
-        15 => takes_bytes(0, there),
-        16 => takes_bytes(4, there),
-        17 => takes_bytes(12, there),
-        20 => takes_bytes(4, there),
-        21 => takes_bytes(1, there),
-        _ => takes_bytes(size, there),
+        _ => takes_bytes(plain_length(kind, size), there),
     }
 }
 

@@ -2,25 +2,22 @@
 use mathlib.Core.Path.{_≡_, refl, sym, ap, _∙_, subst}
 use mathlib.Core.Bool.{Bool, true, false, cond}
 use mathlib.Core.List.{List, [], _∷_}
-use Prim.Native.Nat.{ℕ, zero, suc, _+_, _-_, _<_, _≤_}
+use Prim.Native.Nat.{ℕ, zero, suc, _-_, _<_, _≤_}
 use native.Mathlib.Omega.{arith}
 use lib.Dec.{ltb}
 use lib.ListN.{length}
 use borrow.Author.Tests.{ltb-true, ltb-false, lt-ltb}
 use Rattle.blocks.specs.declared.Extent.{Extent}
 use Rattle.blocks.specs.declared.Extent.the-variants as End
-use Rattle.blocks.specs.declared.Read.the-variants as Got
 use Rattle.blocks_listing.specs.declared.Entry.{Entry}
 use Rattle.blocks.specs.Extent.{extentAt}
-use Rattle.blocks.specs.Reading.{blockAt, readAt}
-use Rattle.blocks.specs.Writing.{kindOf}
+use Rattle.blocks.specs.Reading.{readAt}
 use Rattle.blocks_listing.specs.Listing.{Listing, ok, no, entry, cons, onward, blocksFrom, blocksOf}
 use Rattle.blocks_listing.specs.Claims.{Readings, Stops, ListingIsReadings, StepsAreTheListing}
 use Rattle.blocks_listing.specs.Claims as Claims
 use Rattle.blocks.proofs.Ends.{cut, refused-at}
 use Rattle.blocks_listing.proofs.Walk.{goes-on, listed}
-use Rattle.blocks.proofs.Types.{kind-of-block}
-use Rattle.blocks.proofs.ReadExtents.{read-of, refused-of, extent-refused, extent-read}
+use Rattle.blocks.proofs.ReadExtents.{read-extent}
 
 -- ---- a listing is readings
 
@@ -42,9 +39,7 @@ sound (suc f) s at es e = go (λ next fs g. sound f s next fs g .0) (extentAt s 
     more : (k z next : ℕ) → extentAt s at ≡ End.Ends k z next → (l : Listing) → ((fs : List Entry) → l ≡ ok fs → Readings s next fs) → cons (entry at k z) l ≡ ok es → Readings s at es × (0 < length es)
     more k z next q (ok fs) ih g =
         let h : entry at k z ∷ fs ≡ es = cc in
-        let b = blockAt s (at + 3) k (next - (at + 3)) in
-        let r : Readings s at (entry at (kindOf b) z ∷ fs) = Claims.Readings.read (read-of s at k z next q) (ih fs refl) in
-        subst (λ (l : List Entry). Readings s at l × (0 < length l)) h (subst (λ (i : ℕ). Readings s at (entry at i z ∷ fs)) (kind-of-block s (at + 3) (next - (at + 3)) k) r, omega arith)
+        subst (λ (l : List Entry). Readings s at l × (0 < length l)) h (Claims.Readings.read (read-extent s at ∙ q) (ih fs refl), omega arith)
     more k z next q (no m p) ih g = let o : _≡_ {A = ℕ} 0 1 = cc in absurd (omega arith)
 
     go : Rest → (x : Extent) → extentAt s at ≡ x → onward s at (blocksFrom f s) x ≡ ok es → Readings s at es × (0 < length es)
@@ -56,7 +51,7 @@ unfolding blocksFrom
 stops zero s at m p h e =
     let i : 1 ≡ m = cc in
     let j : at ≡ p = cc in
-    subst (Stops s m p) (sym j) (Claims.refused (subst (λ (n : ℕ). readAt s p ≡ Got.Refused n p) i (refused-of s p 1 p (sym (cut s p (omega arith))))))
+    subst (Stops s m p) (sym j) (Claims.refused (read-extent s p ∙ sym (cut s p (omega arith)) ∙ ap (λ (n : ℕ). End.Refused n p) i))
 stops (suc f) s at m p h e = go (λ next i g. stops f s next m p i g) (extentAt s at) refl e
   where
     Rest : Type 0
@@ -66,7 +61,7 @@ stops (suc f) s at m p h e = go (λ next i g. stops f s next m p i g) (extentAt 
     more k z next q (ok fs) ih g = let o : _≡_ {A = ℕ} 0 1 = cc in absurd (omega arith)
     more k z next q (no i j) ih g =
         let r = ih g in
-        Claims.Stops.read (read-of s at k z next q) (r .0) (r .1)
+        Claims.Stops.read (read-extent s at ∙ q) (r .0) (r .1)
 
     tail : Rest → (b : Bool) (next : ℕ) → ltb next (length s) ≡ b → length s - next ≤ f → cond b (blocksFrom f s next) (ok []) ≡ no m p → (next < length s) × Stops s m p next
     tail ih true next i j g = (ltb-true next (length s) i, ih next j g)
@@ -79,14 +74,14 @@ stops (suc f) s at m p h e = go (λ next i g. stops f s next m p i g) (extentAt 
     go ih (End.Refused i j) q g =
         let x : i ≡ m = cc in
         let y : j ≡ p = cc in
-        let w : at ≡ p = refused-at s at i j q ∙ y in
-        subst (Stops s m p) (sym w) (Claims.refused (subst (λ (a : ℕ). readAt s a ≡ Got.Refused m p) w (refused-of s at m p (q ∙ ap (λ (n : ℕ). End.Refused n j) x ∙ ap (End.Refused m) y))))
+        let w : p ≡ at = sym y ∙ refused-at s at i j q .0 in
+        subst (Stops s m p) w (Claims.refused (ap (λ (a : ℕ). readAt s a .extent) w ∙ read-extent s at ∙ q ∙ ap (λ (n : ℕ). End.Refused n j) x ∙ ap (End.Refused m) y))
 
 -- ---- readings are a listing
 
 none-past : {s : List ℕ} {at : ℕ} {es : List Entry} → Readings s at es → length s ≤ at → es ≡ []
 none-past Claims.Readings.done h = refl
-none-past {s} (Claims.Readings.read {at} {z} {next} {b} e r) h = let n = goes-on s at (kindOf b) z next (extent-read s at z next b e) in absurd (omega (arith, n .0, n .1))
+none-past {s} (Claims.Readings.read {at} {kind} {size} {next} e r) h = let n = goes-on s at kind size next (sym (read-extent s at) ∙ e) in absurd (omega (arith, n .0, n .1))
 
 -- one step of the listing
 step : (f : ℕ) (s : List ℕ) (at k z next : ℕ) → extentAt s at ≡ End.Ends k z next → blocksFrom (suc f) s at ≡ cons (entry at k z) (cond (ltb next (length s)) (blocksFrom f s next) (ok []))
@@ -96,10 +91,10 @@ step f s at k z next e = ap (onward s at (blocksFrom f s)) e
 complete : {s : List ℕ} {at : ℕ} {es : List Entry} → Readings s at es → at < length s → (f : ℕ) → length s - at ≤ f → blocksFrom f s at ≡ ok es
 complete Claims.Readings.done h f g = absurd (omega arith)
 complete (Claims.Readings.read {at} e r) h zero g = absurd (omega arith)
-complete {s} (Claims.Readings.read {at} {z} {next} {b} {es} e r) h (suc f) g =
-    let q = extent-read s at z next b e in
-    let n = goes-on s at (kindOf b) z next q in
-    step f s at (kindOf b) z next q ∙ ap (cons (entry at (kindOf b) z)) (tail (λ i. complete r i f (omega (arith, n .0))) (ltb next (length s)) refl)
+complete {s} (Claims.Readings.read {at} {kind} {size} {next} {es} e r) h (suc f) g =
+    let q = sym (read-extent s at) ∙ e in
+    let n = goes-on s at kind size next q in
+    step f s at kind size next q ∙ ap (cons (entry at kind size)) (tail (λ i. complete r i f (omega (arith, n .0))) (ltb next (length s)) refl)
   where
     tail : (next < length s → blocksFrom f s next ≡ ok es) → (c : Bool) → ltb next (length s) ≡ c → cond c (blocksFrom f s next) (ok []) ≡ ok es
     tail ih true i = ih (ltb-true next (length s) i)
@@ -108,11 +103,11 @@ complete {s} (Claims.Readings.read {at} {z} {next} {b} {es} e r) h (suc f) g =
 refuses : {s : List ℕ} {m p at : ℕ} → Stops s m p at → (f : ℕ) → length s - at ≤ f → 0 < f → blocksFrom f s at ≡ no m p
 unfolding blocksFrom
 refuses st zero g h = absurd (omega arith)
-refuses {s} {m} {p} (Claims.Stops.refused e) (suc f) g h = ap (onward s p (blocksFrom f s)) (extent-refused s p m p e)
-refuses {s} {m} {p} (Claims.Stops.read {at} {z} {next} {b} e i r) (suc f) g h =
-    let q = extent-read s at z next b e in
-    let n = goes-on s at (kindOf b) z next q in
-    step f s at (kindOf b) z next q ∙ rw (lt-ltb next (length s) i, refuses r f (omega (arith, n .0)) (omega (arith, n .0)))
+refuses {s} {m} {p} (Claims.Stops.refused e) (suc f) g h = ap (onward s p (blocksFrom f s)) (sym (read-extent s p) ∙ e)
+refuses {s} {m} {p} (Claims.Stops.read {at} {kind} {size} {next} e i r) (suc f) g h =
+    let q = sym (read-extent s at) ∙ e in
+    let n = goes-on s at kind size next q in
+    step f s at kind size next q ∙ rw (lt-ltb next (length s) i, refuses r f (omega (arith, n .0)) (omega (arith, n .0)))
 
 pub listing-is-readings : ListingIsReadings
 unfolding blocksOf blocksFrom
@@ -132,7 +127,7 @@ listing-is-readings s = (
 
     whole : (m p n : ℕ) → length s ≡ n → Stops s m p 0 → blocksFrom (length s) s 0 ≡ no m p
     whole m p zero q (Claims.Stops.refused e) =
-        let x : End.Refused 1 p ≡ End.Refused m p = cut s p (omega arith) ∙ extent-refused s p m p e in
+        let x : End.Refused 1 p ≡ End.Refused m p = cut s p (omega arith) ∙ sym (read-extent s p) ∙ e in
         let i : 1 ≡ m = cc in
         ap (λ (f : ℕ). blocksFrom f s p) q ∙ ap (λ (j : ℕ). no j p) i
     whole m p zero q (Claims.Stops.read e i r) = absurd (omega arith)

@@ -10,8 +10,8 @@ ghost use Prim.Native.Nat.{_+_, _<_, _≤_};
 ghost use mathlib.Core.Bool.{cond};
 ghost use lib.Dec.{ltb};
 ghost use lib.ListN.{length};
-ghost use Rattle.blocks.specs.Extent.{extentAt};
-ghost use Rattle.blocks.specs.Sound.{floorOf, ignoresSize, counted, bodyLength, sound, tested};
+ghost use Rattle.blocks.specs.Extent.{ignoresSize, extentAt};
+ghost use Rattle.blocks.specs.Sound.{floorOf, counted, bodyLength, sound, tested};
 
 // The fewest bytes of a body, four bits a type from the lowest on: types 0 to 15, and 16 to 21.
 const LOW: usize = 0x5_0000_0900_00C4;
@@ -86,7 +86,7 @@ fn is_sound(payload: &[u8], body: usize, kind: u8, size: usize) -> bool
         if size < 6 + kind as usize {
             return false;
         }
-        return is_listed(payload[body]);
+        return is_listed(payload[body] as u64);
     }
     is_tested(kind, size)
 }

@@ -1,175 +1,117 @@
-// Writing one block to the start of a room, its bytes lent beside its value.
-use blocks::Block;
+// Writing one block to the start of a room, by its row: its type and its fields, and its bytes as they are lent.
+use blocks::MESSAGE_TYPE;
 use blocks::Written;
 use blocks_extents::is_listed;
-use blocks_fields::put_fields;
-use blocks_fields::put_u8;
+use blocks_rows::after_of;
+use blocks_rows::carries_bytes;
+use blocks_rows::fit_fields;
+use blocks_rows::is_typed;
+use blocks_rows::length_of;
+use blocks_rows::put_fields;
+use blocks_rows::row_of;
+use blocks_rows::widths_of;
 use wire::copy_to;
 use wire_numbers::put_u16;
 ghost use mathlib.Core.Path.{_≡_};
-ghost use mathlib.Core.Bool.{cond};
+ghost use mathlib.Core.Bool.{true, cond};
+ghost use mathlib.Core.List.{[], _∷_};
 ghost use Prim.Native.Nat.{_+_, _≤_};
 ghost use lib.ListN.{length};
 ghost use Rattle.wire.specs.Parts.{splice};
-ghost use Rattle.blocks.specs.Writing.{kindOf, isNamed, carries, fieldLength, carriedBytes, sizeOf, faulty, blockBytes, writing, roomAfter};
+ghost use Rattle.blocks.specs.Table.{afterFields, typed, fieldLength, carries, allowed};
+ghost use Rattle.blocks.specs.Packed.{rowNumber};
+ghost use Rattle.blocks.specs.Extent.{isI2npType};
+ghost use Rattle.blocks.specs.Writing.{carriedBytes, sizeOf, blockBytes, isProper, writing, roomAfter};
 
-// Whether a number is the type of a block that has a body of its own.
-fn is_named(kind: u8) -> bool
-    ensures { λ r. ⌜ r ≡ isNamed kind ⌝ }
+// Whether so many bytes may follow.
+fn is_allowed(kind: u8, row: u64, n: usize) -> bool
+    requires { ⌜ row ≡ rowNumber kind ⌝ }
+    ensures { λ r. ⌜ r ≡ allowed (afterFields kind) n ⌝ }
 {
-    (kind <= 6) | ((12 <= kind) & (kind <= 13)) | ((15 <= kind) & (kind <= 21)) | (kind == 254)
-}
-
-// The type byte of a block.
-fn kind_of(block: Block) -> u8
-    ensures { λ r. ⌜ r ≡ kindOf block ⌝ }
-{
-    match block {
-        Block::DateTime { .. } => 0,
-        Block::Options { .. } => 1,
-        Block::RouterInfo { .. } => 2,
-        Block::I2np { .. } => 3,
-        Block::FirstFragment { .. } => 4,
-        Block::FollowOnFragment { .. } => 5,
-        Block::Termination { .. } => 6,
-        Block::Ack { .. } => 12,
-        Block::Address { .. } => 13,
-        Block::RelayTagRequest => 15,
-        Block::RelayTag { .. } => 16,
-        Block::NewToken { .. } => 17,
-        Block::PathChallenge { .. } => 18,
-        Block::PathResponse { .. } => 19,
-        Block::FirstPacketNumber { .. } => 20,
-        Block::Congestion { .. } => 21,
-        Block::Padding { .. } => 254,
-        Block::Opaque { kind, .. } => kind,
+    let after = after_of(kind, row);
+    match after {
+        0 => true,
+        1 => true,
+        2 => 0 < n,
+        3 => n % 2 == 0,
+        _ => (n == 4) | (n == 16),
     }
 }
 
-// The bytes of a block's fields.
-fn field_length(block: Block) -> usize
-    ensures { λ r. ⌜ (r ≡ fieldLength block) × (r ≤ 12) ⌝ }
+// A message's type is a listed one.
+fn is_known(kind: u8, row: u64, first: u64) -> bool
+    requires { ⌜ row ≡ rowNumber kind ⌝ }
+    ensures { λ r. ⌜ r ≡ cond (typed kind) (isI2npType first) true ⌝ }
 {
-    match block {
-        Block::DateTime { .. } => 4,
-        Block::Options { .. } => 12,
-        Block::RouterInfo { .. } => 2,
-        Block::I2np { .. } => 9,
-        Block::FirstFragment { .. } => 9,
-        Block::FollowOnFragment { .. } => 5,
-        Block::Termination { .. } => 9,
-        Block::Ack { .. } => 5,
-        Block::Address { .. } => 2,
-        Block::RelayTagRequest => 0,
-        Block::RelayTag { .. } => 4,
-        Block::NewToken { .. } => 12,
-        Block::PathChallenge { .. } => 0,
-        Block::PathResponse { .. } => 0,
-        Block::FirstPacketNumber { .. } => 4,
-        Block::Congestion { .. } => 1,
-        Block::Padding { .. } => 0,
-        Block::Opaque { .. } => 0,
+    if is_typed(kind, row) {
+        return is_listed(first);
     }
+    true
 }
 
-// Whether a block has bytes after its fields.
-fn carries_bytes(block: Block) -> bool
-    ensures { λ r. ⌜ r ≡ carries block ⌝ }
+// Whether a block can be written; else it is 32.
+fn is_proper(kind: u8, row: u64, fields: [u64; 8], n: usize) -> bool
+    requires { ⌜ row ≡ rowNumber kind ⌝ }
+    ensures { λ r. ⌜ r ≡ isProper kind fields n ⌝ }
 {
-    match block {
-        Block::DateTime { .. } => false,
-        Block::Options { .. } => false,
-        Block::RouterInfo { .. } => true,
-        Block::I2np { .. } => true,
-        Block::FirstFragment { .. } => true,
-        Block::FollowOnFragment { .. } => true,
-        Block::Termination { .. } => false,
-        Block::Ack { .. } => true,
-        Block::Address { .. } => true,
-        Block::RelayTagRequest => false,
-        Block::RelayTag { .. } => false,
-        Block::NewToken { .. } => false,
-        Block::PathChallenge { .. } => true,
-        Block::PathResponse { .. } => true,
-        Block::FirstPacketNumber { .. } => false,
-        Block::Congestion { .. } => false,
-        Block::Padding { .. } => true,
-        Block::Opaque { .. } => true,
-    }
+    fit_fields(widths_of(kind, row), fields)
+        & (is_allowed(kind, row, n) & is_known(kind, row, fields[MESSAGE_TYPE]))
 }
 
-// What 32 is given for.
-fn is_faulty(block: Block, body: &[u8]) -> bool
-    ensures { λ r. ⌜ r ≡ faulty block (now (body .entry)) ⌝ }
+// The bytes of so many that a type carries.
+fn carried(kind: u8, row: u64, n: usize) -> usize
+    requires { ⌜ row ≡ rowNumber kind ⌝ }
+    ensures { λ r. ⌜ (r ≡ cond (carries (afterFields kind)) n 0) × (r ≤ n) ⌝ }
 {
-    let n = body.len();
-    match block {
-        Block::DateTime { .. } => false,
-        Block::Options { .. } => false,
-        Block::RouterInfo { .. } => n == 0,
-        Block::I2np { kind, .. } => !is_listed(kind),
-        Block::FirstFragment { kind, .. } => (n == 0) | !is_listed(kind),
-        Block::FollowOnFragment { number, .. } => (n == 0) | (127 < number),
-        Block::Termination { .. } => false,
-        Block::Ack { .. } => n % 2 == 1,
-        Block::Address { .. } => !((n == 4) | (n == 16)),
-        Block::RelayTagRequest => false,
-        Block::RelayTag { .. } => false,
-        Block::NewToken { .. } => false,
-        Block::PathChallenge { .. } => false,
-        Block::PathResponse { .. } => false,
-        Block::FirstPacketNumber { .. } => false,
-        Block::Congestion { .. } => false,
-        Block::Padding { .. } => false,
-        Block::Opaque { kind, .. } => is_named(kind),
-    }
-}
-
-// The bytes after the fields.
-fn put_bytes(block: Block, body: &[u8], room: &mut [u8])
-    requires { ⌜ 3 + sizeOf block (now body) ≤ length (now room) ⌝ }
-    ensures { λ _. ⌜ now (room .exit) ≡ splice (now (room .entry)) (3 + fieldLength block) (carriedBytes block (now (body .entry))) ⌝ }
-{
-    if carries_bytes(block) {
-        copy_to(room, 3 + field_length(block), body);
-    }
-}
-
-// The bytes of so many that a block carries.
-fn carried(block: Block, n: usize) -> usize
-    ensures { λ r. ⌜ (r ≡ cond (carries block) n 0) × (r ≤ n) ⌝ }
-{
-    if carries_bytes(block) {
+    if carries_bytes(kind, row) {
         return n;
     }
     0
 }
 
-// Type, size, fields and bytes, where there is room.
-fn put_block(block: Block, body: &[u8], size: u16, room: &mut [u8])
-    requires { ⌜ (size ≡ sizeOf block (now body)) × (3 + size ≤ length (now room)) ⌝ }
-    ensures { λ _. ⌜ now (room .exit) ≡ splice (now (room .entry)) 0 (blockBytes block (now (body .entry))) ⌝ }
+fn put_u8(room: &mut [u8], at: usize, x: u8)
+    requires { ⌜ at + 1 ≤ length (now room) ⌝ }
+    ensures { λ _. ⌜ now (room .exit) ≡ splice (now (room .entry)) at (x ∷ []) ⌝ }
 {
-    put_u8(room, 0, kind_of(block));
+    room[at] = x;
+}
+
+// The bytes after the fields.
+fn put_bytes(kind: u8, row: u64, body: &[u8], room: &mut [u8])
+    requires { ⌜ (3 + sizeOf kind (now body) ≤ length (now room)) × (row ≡ rowNumber kind) ⌝ }
+    ensures { λ _. ⌜ now (room .exit) ≡ splice (now (room .entry)) (3 + fieldLength kind) (carriedBytes kind (now (body .entry))) ⌝ }
+{
+    if carries_bytes(kind, row) {
+        copy_to(room, 3 + length_of(kind, row), body);
+    }
+}
+
+// Type, size, fields and bytes, where there is room.
+fn put_block(kind: u8, row: u64, fields: [u64; 8], body: &[u8], size: u16, room: &mut [u8])
+    requires { ⌜ (size ≡ sizeOf kind (now body)) × (3 + size ≤ length (now room)) × (row ≡ rowNumber kind) ⌝ }
+    ensures { λ _. ⌜ now (room .exit) ≡ splice (now (room .entry)) 0 (blockBytes kind fields (now (body .entry))) ⌝ }
+{
+    put_u8(room, 0, kind);
     put_u16(room, 1, size);
-    put_fields(block, room);
-    put_bytes(block, body, room);
+    put_fields(room, 3, widths_of(kind, row), fields);
+    put_bytes(kind, row, body, room);
 }
 
 // Writes a block to the start of the room, with the bytes of its body as they are lent, or refuses and leaves the room as it was.
-pub fn write_block(block: Block, body: &[u8], room: &mut [u8]) -> Written
-    ensures { λ r. ⌜ (r ≡ writing block (now (body .entry)) (length (now (room .entry)))) × (now (room .exit) ≡ roomAfter block (now (body .entry)) (now (room .entry))) ⌝ }
+pub fn write_block(kind: u8, fields: [u64; 8], body: &[u8], room: &mut [u8]) -> Written
+    ensures { λ r. ⌜ (r ≡ writing kind fields (now (body .entry)) (length (now (room .entry)))) × (now (room .exit) ≡ roomAfter kind fields (now (body .entry)) (now (room .entry))) ⌝ }
 {
-    if is_faulty(block, body) {
+    let row = row_of(kind);
+    if !is_proper(kind, row, fields, body.len()) {
         return Written::Refused { number: 32 };
     }
-    let size = field_length(block) + carried(block, body.len());
+    let size = length_of(kind, row) + carried(kind, row, body.len());
     if 65535 < size {
         return Written::Refused { number: 31 };
     }
     if room.len() < 3 + size {
         return Written::Refused { number: 30 };
     }
-    put_block(block, body, size as u16, room);
+    put_block(kind, row, fields, body, size as u16, room);
     Written::Length { count: 3 + size }
 }

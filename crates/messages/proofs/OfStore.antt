@@ -11,18 +11,16 @@ use borrow.Author.Tests.{ne-eqb, eqb-true}
 use Rattle.wire.specs.Parts.{part, splice}
 use Rattle.wire.proofs.Parts.{part-same}
 use Rattle.blocks.specs.declared.Part.{Part}
-use Rattle.blocks.specs.declared.Block.the-variants as Body
-use Rattle.blocks.specs.declared.Read.the-variants as Got
+use Rattle.blocks.specs.Names.{messageType, messageId, messageExpiration, followOnNumber, followOnLast, followOnId}
 use Rattle.reassembly.specs.declared.Reply.{Reply}
-use Rattle.reassembly.specs.Store.{first, follow, Rebuilt}
-use Rattle.reassembly.specs.Neighbours.{NeighboursAnswer, stepFrom}
+use Rattle.reassembly.specs.Store.{Rebuilt}
+use Rattle.reassembly.specs.Neighbours.{NeighboursAnswer}
 use Rattle.reassembly.specs.Calls.{lent, After}
-use Rattle.reassembly.specs.Shares.{firstCall, followOnCall}
-use Rattle.reassembly.specs.Standing.{neighboursOf, AllAgree}
+use Rattle.reassembly.specs.Standing.{AllAgree}
 use Rattle.reassembly.proofs.Promised.{first-promise, follow-promise}
 use Rattle.reassembly.proofs.Brought.{Sober, from-sober, reply-number, reply-some, laid-some}
 use Rattle.messages.specs.declared.Received.{Received}
-use Rattle.messages.specs.Delivery.{deliveryWith, nothing, wholeAt, rebuiltBy, rebuilt, deliveredBy, delivered, messageIn}
+use Rattle.messages.specs.Delivery.{deliveryWith, nothing, wholeAt, rebuiltBy, rebuilt, deliveredBy, messageIn}
 use Rattle.messages.specs.OfStore.{outBytes, receivedFor, OfStore, FirstOfStore, FollowOfStore}
 
 pub from-none : (at : ℕ) (r : Reply) (id n : ℕ) → r .number ≡ n → (n ≡ 60 → ⊥) → rebuiltBy at r id ≡ receivedFor at id n none
@@ -100,22 +98,16 @@ rebuilt-of s at out x a id g b = go (a .out) refl
 
 pub first-of-store : FirstOfStore
 unfolding deliveredBy
-first-of-store s at rec room out m second k i x p made hi hx hs =
-    rebuilt-of s at out (firstCall (lent rec room out) m (record { id = i; number = 0; last = false; kind = k; expires = x }) second (part s (p .start) (p .len)))
-    (stepFrom (length out) (neighboursOf rec room) m (first i k x (part s (p .start) (p .len))) second) i
-    (first-promise rec room out m i k x second (part s (p .start) (p .len)) _ hi hx hs refl made)
-    (from-sober (length out) (neighboursOf rec room) m (first i k x (part s (p .start) (p .len))) second)
+first-of-store s at rec room out m second f p made hi hx hs =
+    rebuilt-of s at out _ _ (messageId f) (first-promise rec room out m (messageId f) (messageType f) (messageExpiration f) second _ _ hi hx hs refl made) (from-sober _ _ _ _ _)
 
 pub follow-of-store : FollowOfStore
 unfolding deliveredBy
-follow-of-store s at rec room out m second n l i p made hi hs =
-    rebuilt-of s at out (followOnCall (lent rec room out) m (record { id = i; number = n; last = l; kind = 0; expires = 0 }) second (part s (p .start) (p .len)))
-    (stepFrom (length out) (neighboursOf rec room) m (follow i n l (part s (p .start) (p .len))) second) i
-    (follow-promise rec room out m i n l second (part s (p .start) (p .len)) _ hi hs refl made)
-    (from-sober (length out) (neighboursOf rec room) m (follow i n l (part s (p .start) (p .len))) second)
+follow-of-store s at rec room out m second f p made hi hs =
+    rebuilt-of s at out _ _ (followOnId f) (follow-promise rec room out m (followOnId f) (followOnNumber f) (followOnLast f) second _ _ hi hs refl made) (from-sober _ _ _ _ _)
 
--- a whole message is its block's part of the payload, and the store stays
-pub whole-shown : (s : List ℕ) (at : ℕ) (rec room out : List ℕ) (n second k i x : ℕ) (p : Part)
-    → messageIn s (deliveredBy s at (lent rec room out) n second (Body.I2np k i x p) .left .out) (deliveredBy s at (lent rec room out) n second (Body.I2np k i x p) .received) ≡ part s (p .start) (p .len)
+-- a whole message is its block's part of the payload
+pub whole-shown : (s : List ℕ) (at : ℕ) (rec room out : List ℕ) (n second : ℕ) (f : List ℕ) (p : Part)
+    → messageIn s (deliveredBy s at (lent rec room out) n second 3 f p .left .out) (deliveredBy s at (lent rec room out) n second 3 f p .received) ≡ part s (p .start) (p .len)
 unfolding deliveredBy messageIn wholeAt
-whole-shown s at rec room out n second k i x p = refl
+whole-shown s at rec room out n second f p = refl

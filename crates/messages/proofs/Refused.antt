@@ -7,21 +7,20 @@ use Prim.Native.Nat.{ℕ}
 use lib.Dec.{eqb}
 use borrow.Author.Tests.{eqb-true, ne-eqb}
 use types.Run.{OneOf}
-use Rattle.wire.specs.Parts.{part}
-use Rattle.blocks.specs.declared.Block.{Block}
-use Rattle.blocks.specs.declared.Block.the-variants as Body
-use Rattle.blocks.specs.declared.Read.{Read}
-use Rattle.blocks.specs.declared.Read.the-variants as Got
+use Rattle.blocks.specs.declared.Part.{Part}
+use Rattle.blocks.specs.declared.Extent.{Extent}
+use Rattle.blocks.specs.declared.Extent.the-variants as End
+use Rattle.blocks.specs.Names.{messageId, followOnId}
 use Rattle.blocks.specs.Reading.{readAt}
 use Rattle.blocks.proofs.Refused.{unread, read-numbers}
 use Rattle.reassembly.specs.declared.Reply.{Reply}
 use Rattle.reassembly.specs.Calls.{Lent, After, after}
-use Rattle.reassembly.specs.Shares.{firstCall, followOnCall}
 use Rattle.reassembly.specs.Careful.{Careful}
 use Rattle.reassembly.proofs.Refusals.{careful-first, careful-follow-on}
 use Rattle.reassembly.proofs.Refused.{followOnNumbers, of-first, first-numbers, follow-on-numbers}
 use Rattle.messages.specs.declared.Received.{Received}
-use Rattle.messages.specs.Delivery.{Delivery, deliveryWith, nothing, wholeAt, rebuiltBy, rebuilt, deliveredBy, delivered}
+use Rattle.messages.specs.Delivery.{Delivery, deliveryWith, nothing, wholeAt, rebuiltBy, rebuilt, firstLabel, followOnLabel, deliveredBy, deliveredEnd, delivered}
+use Rattle.messages.proofs.Deliveries.{by-kind, other-is}
 
 -- a piece's number is the store's
 number-is : (at : ℕ) (r : Reply) (id : ℕ) → rebuiltBy at r id .number ≡ r .number
@@ -70,38 +69,23 @@ module _ (s : List ℕ) (at : ℕ) (x : Lent) (n second : ℕ) where
           ap (λ (z : After). deliveryWith (rebuiltBy at (y .reply) id) (z .left)) e
           ∙ ap (λ (r : Received). deliveryWith r x) is
 
-  block-stays : (b : Block) → Stays (deliveredBy s at x n second b)
+  block-stays : (kind : ℕ) (f : List ℕ) (p : Part) → Stays (deliveredBy s at x n second kind f p)
   unfolding deliveredBy wholeAt nothing
-  block-stays (Body.FirstFragment k i e p) =
-      piece-stays (firstCall x n (record { id = i; number = 0; last = false; kind = k; expires = e }) second (part s (p .start) (p .len))) i
-      (careful-first x n (record { id = i; number = 0; last = false; kind = k; expires = e }) second (part s (p .start) (p .len)))
-  block-stays (Body.FollowOnFragment m l i p) =
-      piece-stays (followOnCall x n (record { id = i; number = m; last = l; kind = 0; expires = 0 }) second (part s (p .start) (p .len))) i
-      (careful-follow-on x n (record { id = i; number = m; last = l; kind = 0; expires = 0 }) second (part s (p .start) (p .len)))
-  block-stays (Body.I2np k i e p) = λ kept done. absurd (kept refl)
-  block-stays (Body.DateTime t) = λ kept done. absurd (kept refl)
-  block-stays (Body.Options a b c d e f g h) = λ kept done. absurd (kept refl)
-  block-stays (Body.RouterInfo f g p) = λ kept done. absurd (kept refl)
-  block-stays (Body.Termination m r) = λ kept done. absurd (kept refl)
-  block-stays (Body.Ack t m p) = λ kept done. absurd (kept refl)
-  block-stays (Body.Address o p) = λ kept done. absurd (kept refl)
-  block-stays Body.RelayTagRequest = λ kept done. absurd (kept refl)
-  block-stays (Body.RelayTag t) = λ kept done. absurd (kept refl)
-  block-stays (Body.NewToken e t) = λ kept done. absurd (kept refl)
-  block-stays (Body.PathChallenge p) = λ kept done. absurd (kept refl)
-  block-stays (Body.PathResponse p) = λ kept done. absurd (kept refl)
-  block-stays (Body.FirstPacketNumber m) = λ kept done. absurd (kept refl)
-  block-stays (Body.Congestion f) = λ kept done. absurd (kept refl)
-  block-stays (Body.Padding p) = λ kept done. absurd (kept refl)
-  block-stays (Body.Opaque k p) = λ kept done. absurd (kept refl)
+  block-stays kind f p =
+      by-kind (λ k. Stays (deliveredBy s at x n second k f p))
+      (λ kept done. absurd (kept refl))
+      (piece-stays _ (messageId f) (careful-first x n (firstLabel f) second _))
+      (piece-stays _ (followOnId f) (careful-follow-on x n (followOnLabel f) second _))
+      (λ k h kept done. absurd (kept (ap (λ (d : Delivery). d .received .number) (other-is s at x n second k f p h))))
+      kind
 
   pub delivery-stays : Stays (delivered s at x n second (readAt s at))
   unfolding delivered nothing
-  delivery-stays = go (readAt s at) refl
+  delivery-stays = go (readAt s at .extent) refl (readAt s at .fields) (readAt s at .bytes)
     where
-      go : (r : Read) → readAt s at ≡ r → Stays (delivered s at x n second r)
-      go (Got.Block b z w) e = block-stays b
-      go (Got.Refused m p) e = λ kept done. ap (λ (q : ℕ). deliveryWith (nothing m q) x) (read-numbers s at m p e .0)
+      go : (e : Extent) → readAt s at .extent ≡ e → (f : List ℕ) (p : Part) → Stays (deliveredEnd s at x n second e f p)
+      go (End.Ends k z w) e f p = block-stays k f p
+      go (End.Refused m o) e f p = λ kept done. ap (λ (q : ℕ). deliveryWith (nothing m q) x) (read-numbers s at m o e .0)
 
 -- kept and finished, a block's refusals, a piece's
 abbrev pub deliveryNumbers : List ℕ
@@ -131,35 +115,20 @@ module _ (s : List ℕ) (at : ℕ) (x : Lent) (n second : ℕ) where
   unfolding rebuilt
   piece-numbers y id e = of-piece _ (subst (OneOf followOnNumbers) (sym (number-is at (y .reply) id)) e)
 
-  block-numbers : (b : Block) → OneOf deliveryNumbers (deliveredBy s at x n second b .received .number)
+  block-numbers : (kind : ℕ) (f : List ℕ) (p : Part) → OneOf deliveryNumbers (deliveredBy s at x n second kind f p .received .number)
   unfolding deliveredBy wholeAt nothing
-  block-numbers (Body.FirstFragment k i e p) =
-      piece-numbers (firstCall x n (record { id = i; number = 0; last = false; kind = k; expires = e }) second (part s (p .start) (p .len))) i
-      (of-first _ (first-numbers x n (record { id = i; number = 0; last = false; kind = k; expires = e }) second (part s (p .start) (p .len))))
-  block-numbers (Body.FollowOnFragment m l i p) =
-      piece-numbers (followOnCall x n (record { id = i; number = m; last = l; kind = 0; expires = 0 }) second (part s (p .start) (p .len))) i
-      (follow-on-numbers x n (record { id = i; number = m; last = l; kind = 0; expires = 0 }) second (part s (p .start) (p .len)))
-  block-numbers (Body.I2np k i e p) = none
-  block-numbers (Body.DateTime t) = none
-  block-numbers (Body.Options a b c d e f g h) = none
-  block-numbers (Body.RouterInfo f g p) = none
-  block-numbers (Body.Termination m r) = none
-  block-numbers (Body.Ack t m p) = none
-  block-numbers (Body.Address o p) = none
-  block-numbers Body.RelayTagRequest = none
-  block-numbers (Body.RelayTag t) = none
-  block-numbers (Body.NewToken e t) = none
-  block-numbers (Body.PathChallenge p) = none
-  block-numbers (Body.PathResponse p) = none
-  block-numbers (Body.FirstPacketNumber m) = none
-  block-numbers (Body.Congestion f) = none
-  block-numbers (Body.Padding p) = none
-  block-numbers (Body.Opaque k p) = none
+  block-numbers kind f p =
+      by-kind (λ k. OneOf deliveryNumbers (deliveredBy s at x n second k f p .received .number))
+      none
+      (piece-numbers _ (messageId f) (of-first _ (first-numbers x n (firstLabel f) second _)))
+      (piece-numbers _ (followOnId f) (follow-on-numbers x n (followOnLabel f) second _))
+      (λ k h. rw (other-is s at x n second k f p h) none)
+      kind
 
   pub delivery-numbers : OneOf deliveryNumbers (delivered s at x n second (readAt s at) .received .number)
   unfolding delivered nothing
-  delivery-numbers = go (readAt s at) refl
+  delivery-numbers = go (readAt s at .extent) refl (readAt s at .fields) (readAt s at .bytes)
     where
-      go : (r : Read) → readAt s at ≡ r → OneOf deliveryNumbers (delivered s at x n second r .received .number)
-      go (Got.Block b z w) e = block-numbers b
-      go (Got.Refused m p) e = of-block m (read-numbers s at m p e .1)
+      go : (e : Extent) → readAt s at .extent ≡ e → (f : List ℕ) (p : Part) → OneOf deliveryNumbers (deliveredEnd s at x n second e f p .received .number)
+      go (End.Ends k z w) e f p = block-numbers k f p
+      go (End.Refused m o) e f p = of-block m (read-numbers s at m o e .1)

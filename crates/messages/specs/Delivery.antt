@@ -5,10 +5,11 @@ use Prim.Native.Nat.{ℕ}
 use lib.Dec.{eqb}
 use Rattle.wire.specs.Parts.{part}
 use Rattle.blocks.specs.declared.Part.{Part}
-use Rattle.blocks.specs.declared.Block.{Block}
-use Rattle.blocks.specs.declared.Block.the-variants as Body
+use Rattle.blocks.specs.declared.Extent.{Extent}
+use Rattle.blocks.specs.declared.Extent.the-variants as End
 use Rattle.blocks.specs.declared.Read.{Read}
-use Rattle.blocks.specs.declared.Read.the-variants as Got
+use Rattle.blocks.specs.Names.{messageType, messageId, messageExpiration, followOnNumber, followOnLast, followOnId}
+use Rattle.reassembly.specs.declared.Label.{Label}
 use Rattle.reassembly.specs.declared.Reply.{Reply}
 use Rattle.reassembly.specs.Calls.{Lent, After}
 use Rattle.reassembly.specs.Shares.{firstCall, followOnCall}
@@ -42,33 +43,30 @@ rebuiltBy at r id =
 unfoldable pub rebuilt : ℕ → After → ℕ → Delivery
 rebuilt at y id = deliveryWith (rebuiltBy at (y .reply) id) (y .left)
 
--- a block that was read at a place of a payload of neighbour n; only a fragment's piece comes to the store, and asks for the neighbour
-unfoldable pub deliveredBy : List ℕ → ℕ → Lent → ℕ → ℕ → Block → Delivery
-deliveredBy s at x n second (Body.I2np k i e p) = deliveryWith (wholeAt k i e p) x
-deliveredBy s at x n second (Body.FirstFragment k i e p) =
-    rebuilt at (firstCall x n (record { id = i; number = 0; last = false; kind = k; expires = e }) second (part s (p .start) (p .len))) i
-deliveredBy s at x n second (Body.FollowOnFragment m l i p) =
-    rebuilt at (followOnCall x n (record { id = i; number = m; last = l; kind = 0; expires = 0 }) second (part s (p .start) (p .len))) i
-deliveredBy s at x n second (Body.DateTime t) = deliveryWith (nothing 0 0) x
-deliveredBy s at x n second (Body.Options a b c d e f g h) = deliveryWith (nothing 0 0) x
-deliveredBy s at x n second (Body.RouterInfo f g p) = deliveryWith (nothing 0 0) x
-deliveredBy s at x n second (Body.Termination m r) = deliveryWith (nothing 0 0) x
-deliveredBy s at x n second (Body.Ack t m p) = deliveryWith (nothing 0 0) x
-deliveredBy s at x n second (Body.Address o p) = deliveryWith (nothing 0 0) x
-deliveredBy s at x n second Body.RelayTagRequest = deliveryWith (nothing 0 0) x
-deliveredBy s at x n second (Body.RelayTag t) = deliveryWith (nothing 0 0) x
-deliveredBy s at x n second (Body.NewToken e t) = deliveryWith (nothing 0 0) x
-deliveredBy s at x n second (Body.PathChallenge p) = deliveryWith (nothing 0 0) x
-deliveredBy s at x n second (Body.PathResponse p) = deliveryWith (nothing 0 0) x
-deliveredBy s at x n second (Body.FirstPacketNumber m) = deliveryWith (nothing 0 0) x
-deliveredBy s at x n second (Body.Congestion f) = deliveryWith (nothing 0 0) x
-deliveredBy s at x n second (Body.Padding p) = deliveryWith (nothing 0 0) x
-deliveredBy s at x n second (Body.Opaque k p) = deliveryWith (nothing 0 0) x
+-- a first fragment's piece, by its block's fields
+abbrev pub firstLabel : List ℕ → Label
+firstLabel f = record { id = messageId f; number = 0; last = false; kind = messageType f; expires = messageExpiration f }
 
--- a block, or its refusal
+-- and a follow-on's
+abbrev pub followOnLabel : List ℕ → Label
+followOnLabel f = record { id = followOnId f; number = followOnNumber f; last = followOnLast f; kind = 0; expires = 0 }
+
+-- a block of a type, with its fields and its bytes, at a place of a payload of neighbour n; only a fragment's piece comes to the store, and asks for the neighbour
+unfoldable pub deliveredBy : List ℕ → ℕ → Lent → ℕ → ℕ → ℕ → List ℕ → Part → Delivery
+deliveredBy s at x n second kind f p =
+    cond (eqb kind 3) (deliveryWith (wholeAt (messageType f) (messageId f) (messageExpiration f) p) x)
+    (cond (eqb kind 4) (rebuilt at (firstCall x n (firstLabel f) second (part s (p .start) (p .len))) (messageId f))
+    (cond (eqb kind 5) (rebuilt at (followOnCall x n (followOnLabel f) second (part s (p .start) (p .len))) (followOnId f))
+    (deliveryWith (nothing 0 0) x)))
+
+-- a block that ends, or its refusal
+abbrev pub deliveredEnd : List ℕ → ℕ → Lent → ℕ → ℕ → Extent → List ℕ → Part → Delivery
+deliveredEnd s at x n second (End.Ends kind size next) f p = deliveredBy s at x n second kind f p
+deliveredEnd s at x n second (End.Refused number place) f p = deliveryWith (nothing number place) x
+
+-- what the block that was read at a place delivers
 unfoldable pub delivered : List ℕ → ℕ → Lent → ℕ → ℕ → Read → Delivery
-delivered s at x n second (Got.Block b size next) = deliveredBy s at x n second b
-delivered s at x n second (Got.Refused number place) = deliveryWith (nothing number place) x
+delivered s at x n second r = deliveredEnd s at x n second (r .extent) (r .fields) (r .bytes)
 
 -- the bytes of the message that was received; none where none was
 unfoldable pub messageIn : List ℕ → List ℕ → Received → List ℕ

@@ -1,6 +1,6 @@
 -- What is received, said of the store: a neighbour's fragment delivers exactly the message that its piece brings out of the store, and nothing else.
 use mathlib.Core.Path.{_≡_}
-use mathlib.Core.Bool.{Bool, cond}
+use mathlib.Core.Bool.{cond}
 use mathlib.Core.List.{List, []}
 use mathlib.Core.Option.{Option, none, some}
 use Prim.Native.Nat.{ℕ, _<_}
@@ -8,7 +8,7 @@ use lib.Dec.{eqb}
 use lib.ListN.{length}
 use Rattle.wire.specs.Parts.{part}
 use Rattle.blocks.specs.declared.Part.{Part}
-use Rattle.blocks.specs.declared.Block.the-variants as Body
+use Rattle.blocks.specs.Names.{messageType, messageId, messageExpiration, followOnNumber, followOnLast, followOnId}
 use Rattle.reassembly.specs.Store.{first, follow, Rebuilt}
 use Rattle.reassembly.specs.Neighbours.{NeighboursAnswer, stepFrom}
 use Rattle.reassembly.specs.Calls.{lent}
@@ -39,11 +39,11 @@ pub record OfStore (s : List ℕ) (at id : ℕ) (out : List ℕ) (x : Delivery) 
 -- a first fragment's block of neighbour m, on a record and a room that calls made, is answered as the store answers its piece
 abbrev pub FirstOfStore : Type 0
 FirstOfStore =
-    (s : List ℕ) (at : ℕ) (rec room out : List ℕ) (m second k i x : ℕ) (p : Part) → AllMade rec room → i < 4294967296 → x < 4294967296 → second < 18446744073709551616
-    → OfStore s at i out (deliveredBy s at (lent rec room out) m second (Body.FirstFragment k i x p)) (stepFrom (length out) (neighboursOf rec room) m (first i k x (part s (p .start) (p .len))) second)
+    (s : List ℕ) (at : ℕ) (rec room out : List ℕ) (m second : ℕ) (f : List ℕ) (p : Part) → AllMade rec room → messageId f < 4294967296 → messageExpiration f < 4294967296 → second < 18446744073709551616
+    → OfStore s at (messageId f) out (deliveredBy s at (lent rec room out) m second 4 f p) (stepFrom (length out) (neighboursOf rec room) m (first (messageId f) (messageType f) (messageExpiration f) (part s (p .start) (p .len))) second)
 
 -- and so is a follow-on fragment's
 abbrev pub FollowOfStore : Type 0
 FollowOfStore =
-    (s : List ℕ) (at : ℕ) (rec room out : List ℕ) (m second n : ℕ) (l : Bool) (i : ℕ) (p : Part) → AllMade rec room → i < 4294967296 → second < 18446744073709551616
-    → OfStore s at i out (deliveredBy s at (lent rec room out) m second (Body.FollowOnFragment n l i p)) (stepFrom (length out) (neighboursOf rec room) m (follow i n l (part s (p .start) (p .len))) second)
+    (s : List ℕ) (at : ℕ) (rec room out : List ℕ) (m second : ℕ) (f : List ℕ) (p : Part) → AllMade rec room → followOnId f < 4294967296 → second < 18446744073709551616
+    → OfStore s at (followOnId f) out (deliveredBy s at (lent rec room out) m second 5 f p) (stepFrom (length out) (neighboursOf rec room) m (follow (followOnId f) (followOnNumber f) (followOnLast f) (part s (p .start) (p .len))) second)

@@ -1,10 +1,20 @@
 // What a block of a payload delivers: a message, whole as a part of the payload, or rebuilt as a part of the assembly buffer.
-use blocks::Block;
+use blocks::Extent;
+use blocks::FIRST_FRAGMENT;
+use blocks::FOLLOW_ON_BYTE;
+use blocks::FOLLOW_ON_FRAGMENT;
+use blocks::FOLLOW_ON_ID;
+use blocks::I2NP;
+use blocks::MESSAGE_EXPIRATION;
+use blocks::MESSAGE_ID;
+use blocks::MESSAGE_TYPE;
 use blocks::Part;
-use blocks::Read;
 use reassembly::Reply;
 ghost use mathlib.Core.Path.{_≡_};
+ghost use mathlib.Core.Bool.{true};
 ghost use Rattle.wire.specs.Parts.{part};
+ghost use Rattle.blocks.specs.Layout.{fits};
+ghost use Rattle.blocks.specs.Table.{widths};
 ghost use Rattle.blocks.specs.Reading.{readAt};
 ghost use Rattle.messages.specs.Delivery.{deliveryWith, nothing, wholeAt, rebuiltBy, deliveredBy, delivered, messageIn};
 ghost use Rattle.reassembly.specs.Calls.{lent};
@@ -85,67 +95,122 @@ fn shown(b: &[u8], start: usize, len: usize) -> &[u8]
     &b[start..end]
 }
 
-fn deliver(
+// A first fragment's piece, handed to the store.
+fn deliver_first(
     payload: &[u8],
     at: usize,
-    block: Block,
+    fields: [u64; 8],
+    bytes: Part,
     rec: &mut [u8],
     room: &mut [u8],
     out: &mut [u8],
     neighbour: u64,
     second: u64,
 ) -> Received
-    ensures { λ r. ⌜ deliveryWith r (lent (now (rec .exit)) (now (room .exit)) (now (out .exit))) ≡ deliveredBy (now (payload .entry)) at (lent (now (rec .entry)) (now (room .entry)) (now (out .entry))) neighbour second block ⌝ }
+    requires { ⌜ fits (widths 4) fields ≡ true ⌝ }
+    ensures { λ r. ⌜ deliveryWith r (lent (now (rec .exit)) (now (room .exit)) (now (out .exit))) ≡ deliveredBy (now (payload .entry)) at (lent (now (rec .entry)) (now (room .entry)) (now (out .entry))) neighbour second 4 fields bytes ⌝ }
 {
-    match block {
-        Block::I2np {
-            kind,
-            id,
-            expiration,
+    let kind = fields[MESSAGE_TYPE] as u8;
+    let id = fields[MESSAGE_ID] as u32;
+    let expiration = fields[MESSAGE_EXPIRATION] as u32;
+    let piece = shown(payload, bytes.start, bytes.len);
+    let r = reassembly_store::first_fragment(
+        rec,
+        room,
+        out,
+        neighbour,
+        id,
+        kind,
+        expiration,
+        second,
+        piece,
+    );
+    rebuilt_by(at, r, id)
+}
+
+// A follow-on fragment's piece, handed to the store.
+fn deliver_follow_on(
+    payload: &[u8],
+    at: usize,
+    fields: [u64; 8],
+    bytes: Part,
+    rec: &mut [u8],
+    room: &mut [u8],
+    out: &mut [u8],
+    neighbour: u64,
+    second: u64,
+) -> Received
+    requires { ⌜ fits (widths 5) fields ≡ true ⌝ }
+    ensures { λ r. ⌜ deliveryWith r (lent (now (rec .exit)) (now (room .exit)) (now (out .exit))) ≡ deliveredBy (now (payload .entry)) at (lent (now (rec .entry)) (now (room .entry)) (now (out .entry))) neighbour second 5 fields bytes ⌝ }
+{
+    let byte = fields[FOLLOW_ON_BYTE];
+    let id = fields[FOLLOW_ON_ID] as u32;
+    let piece = shown(payload, bytes.start, bytes.len);
+    let r = reassembly_store::follow_on_fragment(
+        rec,
+        room,
+        out,
+        neighbour,
+        id,
+        (byte / 2) as u8,
+        byte % 2 == 1,
+        second,
+        piece,
+    );
+    rebuilt_by(at, r, id)
+}
+
+// What a block of a type, with its fields and its bytes, delivers.
+fn deliver(
+    payload: &[u8],
+    at: usize,
+    kind: u8,
+    fields: [u64; 8],
+    bytes: Part,
+    rec: &mut [u8],
+    room: &mut [u8],
+    out: &mut [u8],
+    neighbour: u64,
+    second: u64,
+) -> Received
+    requires { ⌜ fits (widths kind) fields ≡ true ⌝ }
+    ensures { λ r. ⌜ deliveryWith r (lent (now (rec .exit)) (now (room .exit)) (now (out .exit))) ≡ deliveredBy (now (payload .entry)) at (lent (now (rec .entry)) (now (room .entry)) (now (out .entry))) neighbour second kind fields bytes ⌝ }
+{
+    if kind == I2NP {
+        return whole_at(
+            fields[MESSAGE_TYPE] as u8,
+            fields[MESSAGE_ID] as u32,
+            fields[MESSAGE_EXPIRATION] as u32,
             bytes,
-        } => whole_at(kind, id, expiration, bytes),
-        Block::FirstFragment {
-            kind,
-            id,
-            expiration,
-            bytes,
-        } => {
-            let piece = shown(payload, bytes.start, bytes.len);
-            let r = reassembly_store::first_fragment(
-                rec,
-                room,
-                out,
-                neighbour,
-                id,
-                kind,
-                expiration,
-                second,
-                piece,
-            );
-            rebuilt_by(at, r, id)
-        }
-        Block::FollowOnFragment {
-            number,
-            last,
-            id,
-            bytes,
-        } => {
-            let piece = shown(payload, bytes.start, bytes.len);
-            let r = reassembly_store::follow_on_fragment(
-                rec,
-                room,
-                out,
-                neighbour,
-                id,
-                number,
-                last,
-                second,
-                piece,
-            );
-            rebuilt_by(at, r, id)
-        }
-        _ => nothing(0, 0),
+        );
     }
+    if kind == FIRST_FRAGMENT {
+        return deliver_first(
+            payload,
+            at,
+            fields,
+            bytes,
+            rec,
+            room,
+            out,
+            neighbour,
+            second,
+        );
+    }
+    if kind == FOLLOW_ON_FRAGMENT {
+        return deliver_follow_on(
+            payload,
+            at,
+            fields,
+            bytes,
+            rec,
+            room,
+            out,
+            neighbour,
+            second,
+        );
+    }
+    nothing(0, 0)
 }
 
 // What the block at a place of a neighbour's payload delivers.
@@ -160,13 +225,24 @@ pub fn receive(
 ) -> Received
     ensures { λ r. ⌜ deliveryWith r (lent (now (rec .exit)) (now (room .exit)) (now (out .exit))) ≡ delivered (now (payload .entry)) at (lent (now (rec .entry)) (now (room .entry)) (now (out .entry))) neighbour second (readAt (now (payload .entry)) at) ⌝ }
 {
-    match blocks_reader::read_block(payload, at) {
-        Read::Block {
-            block,
-            size: _,
-            next: _,
-        } => deliver(payload, at, block, rec, room, out, neighbour, second),
-        Read::Refused { number, place } => nothing(number, place),
+    let read = blocks_reader::read_block(payload, at);
+    let extent = read.extent;
+    let fields = read.fields;
+    let bytes = read.bytes;
+    match extent {
+        Extent::Ends { kind, .. } => deliver(
+            payload,
+            at,
+            kind,
+            fields,
+            bytes,
+            rec,
+            room,
+            out,
+            neighbour,
+            second,
+        ),
+        Extent::Refused { number, place } => nothing(number, place),
     }
 }
 

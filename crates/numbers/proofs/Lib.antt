@@ -1,4 +1,3 @@
 -- The laws.
 pub mod HeaderLaws
-pub mod BlockLaws
 pub mod Refused

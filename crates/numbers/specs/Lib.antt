@@ -1,4 +1,2 @@
--- Headers and blocks as plain numbers.
+-- Headers as plain numbers.
 pub mod Headers
-pub mod BlockNumbers
-pub mod BlockFields

@@ -1,8 +1,8 @@
-// Headers and blocks as plain numbers, as the C calls pass them: the definitions and their laws. What makes the numbers, and a block of them, stands in the crates above.
+// Headers as plain numbers, as the C calls pass them: the definitions and their laws. What makes the numbers stands in the crates above.
 ghost use mathlib.Core.Path.{_≡_};
 ghost use mathlib.Core.Bool.{cond};
 
-// A flag of a header or of a block.
+// A flag of a header.
 pub fn flag(b: bool) -> u64
     ensures { λ r. ⌜ r ≡ cond b 1 0 ⌝ }
 {

@@ -8,7 +8,7 @@ use Rattle.messages.specs.declared.Received.{Received}
 use Rattle.messages.specs.Delivery.{Delivery, deliveryWith}
 use Rattle.numbers_outcomes.specs.declared.Outcome.{Outcome}
 use Rattle.numbers_outcomes.specs.Outcomes.{outcome}
-use Rattle.numbers_outcomes.specs.Deliveries.{deliveryOutcome, deliveryNumbers, deliveredAt, Told, toldWith, toldBy, deliverCall}
+use Rattle.numbers_outcomes.specs.Deliveries.{deliveryOutcome, deliveryNumbers, deliveredAt, toldWith, toldBy, deliverCall}
 
 -- the call, from what was received, what is told of it, and what is left
 pub call-told : (s : List ℕ) (at : ℕ) (x y : Lent) (n second : ℕ) (told told′ : List ℕ) (r : Received) (o : Outcome)

@@ -7,10 +7,13 @@ use lib.ListN.{length, replicate}
 use borrow.Author.Tests.{ne-eqb}
 use types.Run.{OneOf}
 use Rattle.wire.specs.Parts.{splice}
+use Rattle.blocks.specs.declared.Extent.{Extent}
+use Rattle.blocks.specs.declared.Extent.the-variants as End
 use Rattle.blocks.specs.declared.Read.{Read}
-use Rattle.blocks.specs.declared.Read.the-variants as Got
 use Rattle.blocks.specs.declared.Written.{Written}
 use Rattle.blocks.specs.declared.Written.the-variants as Wrote
+use Rattle.blocks.specs.Numbers.{asFields, blockNumbers, readNumbers, writingBy, roomBy}
+use Rattle.blocks.proofs.Refused.{write-leaves, write-numbers}
 use Rattle.blocks_listing.specs.declared.Entry.{Entry}
 use Rattle.blocks_listing.specs.Listing.{Listing, ok, no, listingAnswer, entriesAfter}
 use Rattle.acks.specs.declared.AckInfo.{AckInfo}
@@ -18,25 +21,26 @@ use Rattle.acks.specs.Recorded.{trackerSize, trackerShort}
 use Rattle.acks.specs.AckBlocks.{ackWriting, ackRoom}
 use Rattle.acks.proofs.Refused.{ack-leaves}
 use Rattle.messages.specs.declared.Received.{Received}
-use Rattle.numbers.specs.BlockNumbers.{readNumbers}
-use Rattle.numbers.specs.BlockFields.{writingBy, roomBy}
-use Rattle.numbers.proofs.Refused as Numbers
-use Rattle.numbers_outcomes.specs.Outcomes.{outcome, writeOutcome, readOutcome}
+use Rattle.numbers_outcomes.specs.Outcomes.{outcome, writeOutcome, endOutcome, readOutcome}
 use Rattle.numbers_outcomes.specs.Listings.{listOutcome}
 use Rattle.numbers_outcomes.specs.Trackers.{newAnswer, newRecord, reportNumbers, reportPairs}
 use Rattle.numbers_outcomes.specs.Deliveries.{isRefused, deliveryOutcome, deliveryNumbers}
 
 pub block-stays : (r : Read) (out : List ℕ) → (readOutcome r .number ≡ 0 → ⊥) → readNumbers r out ≡ out
-block-stays (Got.Block b z n) out h = absurd (h refl)
-block-stays (Got.Refused n p) out h = Numbers.block-stays n p out
-
-pub room-stays : (kind : ℕ) (f bytes room : List ℕ) → (writeOutcome (writingBy kind f bytes (length room)) .number ≡ 0 → ⊥)
-    → OneOf (30 ∷ 31 ∷ 32 ∷ []) (writeOutcome (writingBy kind f bytes (length room)) .number) × (roomBy kind f bytes room ≡ room)
-room-stays kind f bytes room = go (writingBy kind f bytes (length room)) refl
+block-stays r out = go (r .extent)
   where
-    go : (w : Written) → writingBy kind f bytes (length room) ≡ w → (writeOutcome w .number ≡ 0 → ⊥) → OneOf (30 ∷ 31 ∷ 32 ∷ []) (writeOutcome w .number) × (roomBy kind f bytes room ≡ room)
+    go : (x : Extent) → (endOutcome x .number ≡ 0 → ⊥) → blockNumbers x (r .fields) (r .bytes) out ≡ out
+    go (End.Ends kind size next) h = absurd (h refl)
+    go (End.Refused number place) h = refl
+
+pub room-stays : (kind : ℕ) (v bytes room : List ℕ) → (writeOutcome (writingBy kind v bytes (length room)) .number ≡ 0 → ⊥)
+    → OneOf (30 ∷ 31 ∷ 32 ∷ []) (writeOutcome (writingBy kind v bytes (length room)) .number) × (roomBy kind v bytes room ≡ room)
+unfolding writingBy roomBy
+room-stays kind v bytes room = go (writingBy kind v bytes (length room)) refl
+  where
+    go : (w : Written) → writingBy kind v bytes (length room) ≡ w → (writeOutcome w .number ≡ 0 → ⊥) → OneOf (30 ∷ 31 ∷ 32 ∷ []) (writeOutcome w .number) × (roomBy kind v bytes room ≡ room)
     go (Wrote.Length n) e h = absurd (h refl)
-    go (Wrote.Refused m) e h = Numbers.room-stays kind f bytes room m e
+    go (Wrote.Refused m) e h = (write-numbers kind (asFields kind v) bytes (length room) m e, write-leaves kind (asFields kind v) bytes room m e)
 
 pub list-stays : (x : Listing) (l : List Entry) → (listOutcome (listingAnswer x) .number ≡ 0 → ⊥) → entriesAfter x l ≡ l
 unfolding listOutcome

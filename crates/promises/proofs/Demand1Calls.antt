@@ -9,9 +9,12 @@ use Rattle.header.specs.declared.Answer.the-variants as Header
 use Rattle.wire.specs.Parts.{part, splice}
 use Rattle.wire.specs.Numbers.{little, big, bigAt}
 use Rattle.wire.proofs.Slices.{splice-none}
-use Rattle.blocks.specs.declared.Read.the-variants as Got
+use Rattle.blocks.specs.Layout.{sum, fieldsAt, fits, eight}
+use Rattle.blocks.specs.Table.{look, widths, afterFields, fieldLength}
 use Rattle.blocks.specs.Extent.{followOn, takenAt, extentAt}
-use Rattle.blocks.specs.Reading.{blockAt, readAt}
+use Rattle.blocks.specs.Reading.{bytesAfter, readRefused, readAt}
+use Rattle.blocks.specs.Writing.{isProper, writing}
+use Rattle.blocks.specs.Numbers.{asFields, readNumbers, writingBy, roomBy}
 use Rattle.reassembly.specs.Sizes.{roomSize, recordSize}
 use Rattle.reassembly.specs.declared.Label.{Label}
 use Rattle.reassembly.specs.Calls.{Lent, lent, After, bare, refuses, badSize, offNumber}
@@ -27,8 +30,6 @@ use Rattle.acks.specs.Recorded.{trackerShort}
 use Rattle.acks.specs.Reporting.{refusedReport, silent}
 use Rattle.numbers_outcomes.specs.Listings.{listOutcome}
 use Rattle.numbers.specs.Headers.{answerNumbers}
-use Rattle.numbers.specs.BlockNumbers.{readNumbers}
-use Rattle.numbers.specs.BlockFields.{fieldsFit, writingBy, roomBy}
 use Rattle.numbers.proofs.Refused as Numbers
 use Rattle.numbers_outcomes.specs.Outcomes.{writeOutcome}
 use Rattle.numbers_outcomes.specs.Trackers.{newAnswer, newRecord, reportNumbers}
@@ -91,15 +92,15 @@ three = 1 ∷ 2 ∷ 3 ∷ []
 pub header-refused : answerNumbers (Header.Refused 20) three ≡ three
 header-refused = demand1-calls .header-numbers (Header.Refused 20) three (is-refusal 20 19 refl)
 
-pub block-refused : readNumbers (Got.Refused 8 0) three ≡ three
-block-refused = demand1-calls .block-numbers (Got.Refused 8 0) three (is-refusal 8 7 refl)
+pub block-refused : readNumbers (readRefused 8 0) three ≡ three
+block-refused = demand1-calls .block-numbers (readRefused 8 0) three (is-refusal 8 7 refl)
 
 -- a port of 65,536
 abbrev wide : List ℕ
 wide = 65536 ∷ []
 
 pub unfit : writeOutcome (writingBy 13 wide three 3) .number ≡ 32
-unfolding writingBy fieldsFit
+unfolding writingBy asFields writing isProper fits widths look
 unfit = refl
 
 pub unfit-stays : roomBy 13 wide three three ≡ three
@@ -149,7 +150,7 @@ module _ (rec room out : List ℕ) (long : recordSize ≤ length rec) (wide : ro
   -- what it delivers, by the store's reply
   by-reply : (n m : ℕ) → followOnCall (lent rec room out) n label second (7 ∷ []) ≡ refuses m (lent rec room out) → rebuiltBy 3 (bare m) 1 ≡ nothing m 3
       → deliveredAt number-0 3 (lent rec room out) n second .received ≡ nothing m 3
-  unfolding delivered deliveredBy rebuilt readAt blockAt extentAt takenAt followOn bigAt big little part
+  unfolding delivered deliveredBy rebuilt readAt fieldsAt eight bytesAfter fieldLength widths afterFields look sum extentAt takenAt followOn bigAt big little part
   by-reply n m e b = ap (λ (x : After). rebuiltBy 3 (x .reply) 1) e ∙ b
 
   -- so the call refuses

@@ -12,14 +12,15 @@ use Rattle.header.specs.declared.Answer.the-variants as Header
 use Rattle.header.specs.Kinds.{isListed}
 use Rattle.header.specs.Reading.{readNumber, headerAnswer, packetAfterRead}
 use Rattle.header.specs.Writing.{writeNumber, packetAfterWrite}
-use Rattle.blocks.specs.declared.Block.the-variants as Body
-use Rattle.blocks.specs.declared.Read.the-variants as Got
+use Rattle.blocks.specs.declared.Extent.the-variants as End
 use Rattle.blocks.specs.declared.Written.the-variants as Wrote
-use Rattle.blocks.specs.Extent.{address, takenAt, extentAt}
+use Rattle.blocks.specs.Layout.{sum, fits}
+use Rattle.blocks.specs.Table.{look, widths, afterFields, typed, fieldLength}
+use Rattle.blocks.specs.Extent.{address, ignoresSize, plainLength, takenAt, extentAt}
 use Rattle.blocks.specs.Reading.{readAt}
 use Rattle.blocks_listing.specs.declared.Entry.{Entry}
 use Rattle.blocks_listing.specs.Listing.{no, entry, blocksFrom, blocksOf, listing, entriesAfter}
-use Rattle.blocks.specs.Writing.{faulty, writing, roomAfter}
+use Rattle.blocks.specs.Writing.{carriedBytes, sizeOf, isProper, writing, roomAfter}
 use Rattle.acks.specs.Tracking.{fresh, mark, registerAnswer, registerOf}
 use Rattle.acks.specs.History.{answerTo}
 use Rattle.acks.specs.Reporting.{refusedReport, reportOf, ackInfo}
@@ -69,7 +70,7 @@ unwritten-stays = demand1 .header-written three three odd three (is-refusal (wri
 abbrev bad-address : List ℕ
 bad-address = 13 ∷ 0 ∷ 7 ∷ 31 ∷ 144 ∷ []
 
-pub no-block : readAt bad-address 0 ≡ Got.Refused 8 0
+pub no-block : readAt bad-address 0 .extent ≡ End.Refused 8 0
 unfolding readAt extentAt takenAt address bigAt big little part
 no-block = refl
 
@@ -81,7 +82,7 @@ abbrev one-record : List Entry
 one-record = entry 9 9 9 ∷ []
 
 pub no-record : listing 1 two-blocks ≡ no 10 3
-unfolding listing blocksOf blocksFrom extentAt takenAt bigAt big little part
+unfolding listing blocksOf blocksFrom extentAt takenAt plainLength ignoresSize fieldLength widths afterFields look sum bigAt big little part
 no-record = refl
 
 pub list-stays : entriesAfter (listing 1 two-blocks) one-record ≡ one-record
@@ -91,12 +92,12 @@ list-stays = demand1 .blocks-listed two-blocks one-record 10 3 no-record .1
 abbrev two : List ℕ
 two = 7 ∷ 7 ∷ []
 
-pub no-room : writing Body.RelayTagRequest [] 2 ≡ Wrote.Refused 30
-unfolding writing faulty
+pub no-room : writing 15 [] [] 2 ≡ Wrote.Refused 30
+unfolding writing isProper fits sizeOf carriedBytes fieldLength widths afterFields typed look sum
 no-room = refl
 
-pub room-stays : roomAfter Body.RelayTagRequest [] two ≡ two
-room-stays = demand1 .block-written Body.RelayTagRequest [] two 30 no-room .1
+pub room-stays : roomAfter 15 [] [] two ≡ two
+room-stays = demand1 .block-written 15 [] [] two 30 no-room .1
 
 -- (j): 40, by value and in place
 pub tracker-stays : registerOf fresh 256 .tracker ≡ fresh

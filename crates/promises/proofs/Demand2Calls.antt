@@ -1,26 +1,27 @@
 -- Demand 2 of the calls, carried over from the tracker by the calls' promises. Assumes nothing.
 use mathlib.Core.Path.{_≡_, sym, ap, _∙_}
-use mathlib.Core.Bool.{Bool, false, cond}
+use mathlib.Core.Bool.{Bool, true, false, cond}
 use mathlib.Core.List.{List, [], _∷_}
 use Prim.Native.Nat.{ℕ, _+_, _^_, _≤_, _<_}
 use native.Mathlib.Omega.{arith}
 use lib.ListN.{length, take, replicate}
 use Rattle.wire.specs.Parts.{part}
 use Rattle.wire.proofs.Slices.{part-alike}
-use Rattle.blocks.specs.declared.Block.the-variants as Body
-use Rattle.blocks.specs.declared.Read.the-variants as Got
-use Rattle.blocks.specs.Reading.{bytesAt}
+use Rattle.blocks.specs.Layout.{fits}
+use Rattle.blocks.specs.Table.{widths}
+use Rattle.blocks.specs.Names.{ackFields}
+use Rattle.blocks.specs.Reading.{bytesAt, blockRead}
 use Rattle.acks.specs.declared.Tracker.{Tracker}
 use Rattle.acks.specs.declared.AckInfo.{AckInfo}
 use Rattle.acks.specs.History.{Packets, answerTo, among, received, highestSeen, newest}
 use Rattle.acks.specs.Tracking.{isDuplicate, registerOf}
 use Rattle.acks.specs.Reporting.{silent, ackInfo, pairBytes}
 use Rattle.acks.specs.Recorded.{trackerSize, trackerShort, trackerAt, registerThere, recordAll, duplicateThere, reportThere}
-use Rattle.acks.specs.AckBlocks.{ackWriting, ackRoom}
+use Rattle.acks.specs.AckBlocks.{ackFieldsOf, ackWriting, ackRoom}
 use Rattle.acks.proofs.Faithful.{Faithful, pairs-cut}
 use Rattle.acks.proofs.Histories.{registered-there, duplicate-there, reported-there, tracked, names-newest}
 use Rattle.acks.proofs.InPlace.{in-place, in-place-long, in-place-behind, in-place-small}
-use Rattle.acks.proofs.Sent.{is-written, is-read}
+use Rattle.acks.proofs.Sent.{ack-fields-fit, is-written, is-read}
 use Rattle.acks.proofs.Refused.{silent-is-41, silent-unwritten, ack-leaves}
 use Rattle.numbers_outcomes.specs.Outcomes.{outcome, writeOutcome}
 use Rattle.numbers_outcomes.specs.Trackers.{newRecord, reportPairs}
@@ -65,13 +66,14 @@ module _ (calls : List ℕ) (r : AckInfo) (f : Faithful (highestSeen calls) (amo
   sent : (room list : List ℕ) → 262 ≤ length room → 255 ≤ length list → Sent calls r room list
   sent room list big long =
       let holds : 8 + length (pairBytes r) ≤ length room = omega (arith, f .few, big) in
-      let b = is-read r room (f .number-is) (f .even) (f .few) holds (omega (arith, f .through-is, small)) in
+      let fit : fits (widths 12) (ackFieldsOf r) ≡ true = ack-fields-fit r (omega (arith, f .through-is, small)) (omega (arith, f .adds-up)) in
+      let b = is-read r room (f .number-is) fit (f .even) (f .few) holds in
       record {
-        wrote = ap writeOutcome (is-written r room (f .number-is) (f .even) (f .few) holds) ∙ ap (λ (n : ℕ). outcome 0 (8 + n)) (f .sized);
+        wrote = ap writeOutcome (is-written r room (f .number-is) fit (f .even) (f .few) holds) ∙ ap (λ (n : ℕ). outcome 0 (8 + n)) (f .sized);
         read =
             b .0
-            ∙ ap (λ (n : ℕ). Got.Block (Body.Ack (r .through) (r .count) (bytesAt 8 n)) (5 + n) (8 + n)) (f .sized)
-            ∙ ap (λ (t : ℕ). Got.Block (Body.Ack t (r .count) (bytesAt 8 (r .len))) (5 + r .len) (8 + r .len)) (f .through-is);
+            ∙ ap (λ (n : ℕ). blockRead 12 (5 + n) (8 + n) (ackFields (r .through) (r .count)) (bytesAt 8 n)) (f .sized)
+            ∙ ap (λ (t : ℕ). blockRead 12 (5 + r .len) (8 + r .len) (ackFields t (r .count)) (bytesAt 8 (r .len))) (f .through-is);
         exact = names (part (ackRoom r room) 8 (r .len)) list (ap (part (ackRoom r room) 8) (sym (f .sized)) ∙ b .1) long;
       }
 

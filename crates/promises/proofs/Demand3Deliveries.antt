@@ -1,19 +1,15 @@
 -- Demand 3 of the payloads' blocks: what a neighbour hands in is to its share what the share's store says it is, and no other neighbour moves it. Assumes nothing.
-use mathlib.Core.Path.{_≡_, refl, sym, ap, _∙_, subst}
+use mathlib.Core.Path.{_≡_, refl, sym, ap, ap₂, _∙_, subst}
 use mathlib.Core.Bool.{Bool, true, false, cond}
 use mathlib.Core.List.{List, [], _∷_}
 use mathlib.Core.Option.{Option, none, some}
-use Prim.Native.Nat.{ℕ, zero, suc, _+_, _<_, _≤_}
+use Prim.Native.Nat.{ℕ, zero, suc, _+_, _*_, _/_, _%_, _<_, _≤_}
 use native.Mathlib.Omega.{arith}
 use lib.Dec.{eqb}
 use lib.ListN.{length, getD}
-use Rattle.blocks.specs.declared.Block.{Block}
-use Rattle.blocks.specs.declared.Block.the-variants as Body
-use Rattle.blocks.specs.Reading.{bytesAt, readAt}
-use Rattle.blocks.specs.Writing.{sizeOf}
-use Rattle.blocks.proofs.Puts.{is-length}
-use Rattle.blocks.proofs.Faults.{first-whole, follow-on-whole}
-use Rattle.blocks.proofs.WriteThenRead.{write-then-read}
+use Rattle.blocks.specs.Layout.{eight}
+use Rattle.blocks.specs.Reading.{readAt}
+use Rattle.blocks.proofs.Named.{number-and-mark, first-back, follow-on-back}
 use Rattle.reassembly.specs.Sizes.{messageSize, mostRemembered}
 use Rattle.reassembly.specs.Store.{Piece, first, follow, pieceBytes, Store, Rebuilt, step}
 use Rattle.reassembly.specs.Runs.{Said, saidOf}
@@ -44,8 +40,13 @@ use Rattle.promises.proofs.HandTurns.{pieceTurn, ownOf, ownHand, hand-o
 
 -- the block at a place has this piece, if it has one
 piece-in : (s : List ℕ) (at : ℕ) (p : Piece) → HasPiece s at p → pieceIn s (readAt s at) ≡ some p
+unfolding eight pieceBytes
 piece-in s at (first id kind expires bytes) h = ap (pieceIn s) (h .read) ∙ ap (λ (v : List ℕ). some (first id kind expires v)) (h .same-bytes)
-piece-in s at (follow id number final bytes) h = ap (pieceIn s) (h .read) ∙ ap (λ (v : List ℕ). some (follow id number final v)) (h .same-bytes)
+piece-in s at (follow id number final bytes) h =
+    let b = number-and-mark number final in
+    ap (pieceIn s) (h .read)
+    ∙ ap (λ (v : List ℕ). some (follow id ((number * 2 + cond final 1 0) / 2) (eqb ((number * 2 + cond final 1 0) % 2) 1) v)) (h .same-bytes)
+    ∙ ap₂ (λ (n : ℕ) (l : Bool). some (follow id n l bytes)) (b .0) (b .1)
 
 -- a cut message's piece, on a share
 piece-own : (c : Cut) (i : ℕ) (l : Loan) (second : ℕ) (s m : List ℕ) → ownOf (some (pieceOf c i)) l second s m ≡ pieceTurn l (c .id) (pieceTaken (lent s m (l .out)) (pieceOf c i) second)
@@ -166,16 +167,12 @@ pub written-is-handed : WrittenIsHanded
 unfolding pieceBytes
 written-is-handed c w l hi hx zero h room lr =
     let body : List ℕ = getD (c .pieces) 0 [] in
-    let b : Block = Body.FirstFragment (c .kind) (c .id) (c .expires) (bytesAt 0 0) in
     let few : length body ≤ 1500 = w .few-bytes 0 h in
-    let r = write-then-read b body room (3 + sizeOf b body) (hi, hx)
-    (is-length b body room (first-whole (c .kind) (c .id) (c .expires) (bytesAt 0 0) body (w .some-bytes 0 h) l) (omega arith) (omega arith)) in
-    record { body = bytesAt 12 (length body); size = sizeOf b body; next = 3 + sizeOf b body; read = r .0; same-bytes = r .1 }
+    let r = first-back (c .kind) (c .id) (c .expires) body room l hi hx (w .some-bytes 0 h) few (omega arith) in
+    record { body = _; size = _; next = _; read = r .0; same-bytes = r .1 }
 written-is-handed c w l hi hx (suc i) h room lr =
     let body : List ℕ = getD (c .pieces) (suc i) [] in
-    let b : Block = Body.FollowOnFragment (suc i) (eqb (suc (suc i)) (length (c .pieces))) (c .id) (bytesAt 0 0) in
     let few : length body ≤ 1500 = w .few-bytes (suc i) h in
     let most : length (c .pieces) ≤ 128 = w .most in
-    let r = write-then-read b body room (3 + sizeOf b body) hi
-    (is-length b body room (follow-on-whole (suc i) (eqb (suc (suc i)) (length (c .pieces))) (c .id) (bytesAt 0 0) body (w .some-bytes (suc i) h) (omega arith)) (omega arith) (omega arith)) in
-    record { body = bytesAt 8 (length body); size = sizeOf b body; next = 3 + sizeOf b body; read = r .0; same-bytes = r .1 }
+    let r = follow-on-back (suc i) (eqb (suc (suc i)) (length (c .pieces))) (c .id) body room (omega arith) hi (w .some-bytes (suc i) h) few (omega arith) in
+    record { body = _; size = _; next = _; read = r .0; same-bytes = r .1 }

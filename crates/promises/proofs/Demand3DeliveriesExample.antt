@@ -9,7 +9,9 @@ use borrow.Author.Tests.{eq-eqb}
 use Rattle.wire.specs.Parts.{part, splice}
 use Rattle.wire.specs.Numbers.{little, big, bigAt}
 use Rattle.blocks.specs.Extent.{isI2npType, firstFragment, takenAt, extentAt}
-use Rattle.blocks.specs.Reading.{bytesAt, blockAt, readAt}
+use Rattle.blocks.specs.Layout.{sum, fieldsAt, eight}
+use Rattle.blocks.specs.Table.{look, widths, afterFields, fieldLength}
+use Rattle.blocks.specs.Reading.{bytesAt, bytesAfter, readAt}
 use Rattle.blocks.specs.Writing.{roomAfter}
 use Rattle.reassembly.specs.Sizes.{mostRemembered}
 use Rattle.reassembly.specs.Memory.{Memory}
@@ -20,7 +22,7 @@ use Rattle.reassembly.specs.Standing.{neighboursOf, AllMade}
 use Rattle.numbers_outcomes.specs.Outcomes.{outcome}
 use Rattle.promises.specs.Demand3.{Cut, Within, deliver, Past, Allowed, pieceOf, cutFrom, noCut, Event, sweepAt, begun, done, isOpen, marked, untouched, tallied, start, note, Schedule, dueOne, due}
 use Rattle.promises.specs.Demand3Calls.{ScheduleInWidth, LongEnough}
-use Rattle.promises.specs.Demand3Deliveries.{HasPiece, Loan, Handing, hands, sweeps, Tells, own, tellings, handings, HandedOne, Handed, outcomeDue, toldOf, toldDue, tellsDue, allDue, FulfilledByDeliveries, blockOf}
+use Rattle.promises.specs.Demand3Deliveries.{HasPiece, Loan, Handing, hands, sweeps, Tells, own, tellings, handings, HandedOne, Handed, outcomeDue, toldOf, toldDue, tellsDue, allDue, FulfilledByDeliveries, pieceKind, pieceFields}
 use Rattle.promises.proofs.Demand3Calls.{store-starts}
 use Rattle.promises.proofs.Demand3Deliveries.{demand3-deliveries, written-is-handed}
 use Rattle.promises.proofs.Demand3Example.{threeCuts, mixture, within-limits, keeps-rules, manyCuts, seventeen, many-within, many-keep-rules}
@@ -50,7 +52,7 @@ told-of told = record { outcome = outcome 0 0; out = []; told = told }
 -- The first schedule: each piece as the block writer leaves it in some room of 1,512 bytes or more; the repeat and the last late repeat behind another block, at place 3.
 module _ (space : List ℕ) (wide : 1512 ≤ length space) where
   abbrev sent : ℕ → ℕ → List ℕ
-  sent c i = roomAfter (blockOf (pieceOf (getD threeCuts c noCut) i)) (pieceBytes (pieceOf (getD threeCuts c noCut) i)) space
+  sent c i = roomAfter (pieceKind (pieceOf (getD threeCuts c noCut) i)) (pieceFields (pieceOf (getD threeCuts c noCut) i)) (pieceBytes (pieceOf (getD threeCuts c noCut) i)) space
 
   is-sent : (c i : ℕ) → c < 3 → isI2npType (getD threeCuts c noCut .kind) ≡ true → i < length (getD threeCuts c noCut .pieces) → HasPiece (sent c i) 0 (pieceOf (getD threeCuts c noCut) i)
   is-sent c i h l k = written-is-handed (getD threeCuts c noCut) (within-limits c h) l (wide-at threeCuts refl c .0) (wide-at threeCuts refl c .1) i k space wide
@@ -59,7 +61,7 @@ module _ (space : List ℕ) (wide : 1512 ≤ length space) where
   behind = 15 ∷ 0 ∷ 0 ∷ 4 ∷ 0 ∷ 11 ∷ 20 ∷ 0 ∷ 0 ∷ 0 ∷ 7 ∷ 0 ∷ 0 ∷ 3 ∷ 132 ∷ 1 ∷ 2 ∷ []
 
   is-behind : HasPiece behind 3 (first 7 20 900 (1 ∷ 2 ∷ []))
-  unfolding readAt blockAt extentAt takenAt firstFragment isI2npType bigAt big little part
+  unfolding readAt fieldsAt eight bytesAfter fieldLength widths afterFields look sum extentAt takenAt firstFragment isI2npType bigAt big little part pieceBytes
   is-behind = record { body = bytesAt 15 2; size = 11; next = 17; read = refl; same-bytes = refl }
 
   abbrev payloads : List (List ℕ)
@@ -102,7 +104,7 @@ module _ (space : List ℕ) (wide : 1512 ≤ length space) where
 module _ (space : List ℕ) (roomy : 1512 ≤ length space) (cs : List Cut) (within : (c : ℕ) → c < length cs → Within (getD cs c noCut))
     (listed : (c : ℕ) → c < length cs → isI2npType (getD cs c noCut .kind) ≡ true) (wide : allWide cs ≡ true) (outs numbers : ℕ → List ℕ) where
   abbrev sentFor : Event → List ℕ
-  sentFor (deliver c i second) = roomAfter (blockOf (pieceOf (getD cs c noCut) i)) (pieceBytes (pieceOf (getD cs c noCut) i)) space
+  sentFor (deliver c i second) = roomAfter (pieceKind (pieceOf (getD cs c noCut) i)) (pieceFields (pieceOf (getD cs c noCut) i)) (pieceBytes (pieceOf (getD cs c noCut) i)) space
   sentFor (sweepAt second) = []
 
   abbrev pub loansFor : (ℕ → Event) → ℕ → Loan

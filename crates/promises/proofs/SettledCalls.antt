@@ -1,21 +1,20 @@
 -- The sender together with the far tracker, of the calls: carried over by the calls' promises at both ends. Assumes nothing.
 use mathlib.Core.Path.{_≡_, refl, sym, ap, ap₂, _∙_}
 use mathlib.Core.Bool.{Bool, true, false, _&&_, _||_, or-true, false≢true}
-use mathlib.Core.Logic.{inl, inr}
 use mathlib.Core.List.{List, [], _∷_}
 use Prim.Native.Nat.{ℕ, zero, suc, _+_, _%_, _^_, _≤_, _<_}
 use native.Mathlib.Omega.{arith}
 use lib.Dec.{eqb}
-use lib.ListN.{length, drop, replicate}
-use types.Run.{OneOf}
+use lib.ListN.{length, drop, getD, replicate}
 use borrow.Author.Tests.{ne-eqb}
 use Rattle.wire.specs.Parts.{part}
 use Rattle.blocks.specs.declared.Part.{Part}
-use Rattle.blocks.specs.declared.Block.the-variants as Body
-use Rattle.blocks.specs.declared.Read.the-variants as Got
+use Rattle.blocks.specs.declared.Read.{Read}
 use Rattle.blocks.specs.declared.Written.{Written}
 use Rattle.blocks.specs.declared.Written.the-variants as Wrote
-use Rattle.blocks.specs.Reading.{bytesAt, readAt}
+use Rattle.blocks.specs.Layout.{eight}
+use Rattle.blocks.specs.Names.{ackFields}
+use Rattle.blocks.specs.Reading.{bytesAt, blockRead, readAt}
 use Rattle.acks.specs.History.{among}
 use Rattle.acks.specs.Tracking.{fresh, registerOf, registerAll}
 use Rattle.acks.specs.Reporting.{ackInfo, pairBytes}
@@ -25,8 +24,8 @@ use Rattle.acks.specs.declared.Tracker.{Tracker}
 use Rattle.acks.specs.declared.AckInfo.{AckInfo}
 use Rattle.acks.proofs.Histories.{registered-there, reported-there}
 use Rattle.acks.proofs.InPlace.{in-place, in-place-long, in-place-small}
-use Rattle.acks.proofs.Sent.{is-written, is-read, written-is-read, through-below}
-use Rattle.acks.proofs.Refused.{ack-numbers, report-paired}
+use Rattle.acks.proofs.Sent.{is-written, is-read, written-is-read}
+use Rattle.acks.proofs.Refused.{ack-refused, report-paired, report-fits}
 use Rattle.acks.proofs.Members.{among-append}
 use Rattle.numbers_outcomes.specs.Outcomes.{writeOutcome}
 use Rattle.sender.specs.Sender.{send, resend, ack}
@@ -140,38 +139,34 @@ module _ (there : List ℕ) (zeros : Fresh there) where
   length-of past room z (Wrote.Length n) e = (n, refl)
   length-of past room z (Wrote.Refused m) e =
       let o : m ≡ 0 = sym (ap (λ (w : Written). writeOutcome w .number) e) ∙ z in
-      absurd (never m (ack-numbers (farAfter there past) room m e) o)
-    where
-      never : (m : ℕ) → OneOf (30 ∷ 41 ∷ 59 ∷ []) m → m ≡ 0 → ⊥
-      never m (inl e) o = omega arith
-      never m (inr (inl e)) o = omega arith
-      never m (inr (inr e)) o = omega arith
+      absurd (ack-refused (reportAt there past) room m e o)
 
   -- what was read from such a block is a report of that moment
   carried-says : (past : List Event) → OnlyFromSender past → (through count : ℕ) (pairs : List ℕ) → Carried there past through count pairs → Reported past through count pairs
+  unfolding eight
   carried-says past q through count pairs c =
       let then : List Event = drop (c .ago) past in
       let ours : OnlyFromSender then = earlier (c .ago) past q in
       let r : AckInfo = reportAt there then in
       let same : r ≡ ackInfo (far then) = far-reports then ours in
-      let small : r .through < 256 ^ 4 = rw same (omega (arith, through-below (far then), far-small then ours)) in
       let l = length-of then (length (c .room)) (c .wrote) (ackWriting r (length (c .room))) refl in
-      let w = written-is-read r (c .room) (l .0) (l .1) small in
+      let w = written-is-read r (c .room) (l .0) (l .1) in
       record { ago = c .ago; says = rw (sym same) (says r through count pairs (c .room) (c .at) (c .size) (c .next) (l .0) (w .0) (w .1) (w .2) (c .read) (c .fed)) }
     where
       says :
           (r : AckInfo) (through count : ℕ) (pairs room : List ℕ) (at : Part) (size next n : ℕ) → r .number ≡ 0
-          → readAt (ackRoom r room) 0 ≡ Got.Block (Body.Ack (r .through) (r .count) (bytesAt 8 (length (pairBytes r)))) (5 + length (pairBytes r)) n
+          → readAt (ackRoom r room) 0 ≡ blockRead 12 (5 + length (pairBytes r)) n (ackFields (r .through) (r .count)) (bytesAt 8 (length (pairBytes r)))
           → part (ackRoom r room) 8 (length (pairBytes r)) ≡ pairBytes r
-          → readAt (ackRoom r room) 0 ≡ Got.Block (Body.Ack through count at) size next
+          → readAt (ackRoom r room) 0 ≡ blockRead 12 size next (ackFields through count) at
           → pairs ≡ part (ackRoom r room) (at .start) (at .len)
           → Says r through count pairs
       says r through count pairs room at size next n given read shown got fed =
-          let a : bytesAt 8 (length (pairBytes r)) ≡ at = cc in
+          let e = sym got ∙ read in
+          let a : bytesAt 8 (length (pairBytes r)) ≡ at = sym (ap (λ (x : Read). x .bytes) e) in
           record {
             reported = given;
-            same-through = cc;
-            same-count = cc;
+            same-through = ap (λ (x : Read). getD (x .fields) 0 0) e;
+            same-count = ap (λ (x : Read). getD (x .fields) 1 0) e;
             same-pairs = fed ∙ ap (λ (p : Part). part (ackRoom r room) (p .start) (p .len)) (sym a) ∙ shown;
           }
 
@@ -184,8 +179,9 @@ module _ (there : List ℕ) (zeros : Fresh there) where
       let same : reportAt there then ≡ r = far-reports then ours in
       let two : (length (pairBytes r) % 2 ≡ 0) × (length (pairBytes r) ≤ 254) = report-paired (far then) (c .says .reported) in
       let holds : 8 + length (pairBytes r) ≤ length room = omega (arith, two .1, big) in
-      let w = is-written r room (c .says .reported) (two .0) (two .1) holds in
-      let b = is-read r room (c .says .reported) (two .0) (two .1) holds (omega (arith, through-below (far then), far-small then ours)) in
+      let fit = report-fits (far then) (c .says .reported) (far-small then ours) in
+      let w = is-written r room (c .says .reported) fit (two .0) (two .1) holds in
+      let b = is-read r room (c .says .reported) fit (two .0) (two .1) holds in
       record {
         ago = c .ago;
         room = room;
@@ -195,7 +191,7 @@ module _ (there : List ℕ) (zeros : Fresh there) where
         next = 8 + length (pairBytes r);
         read =
             ap (λ (x : AckInfo). readAt (ackRoom x room) 0) same ∙ b .0
-            ∙ ap₂ (λ (t n : ℕ). Got.Block (Body.Ack t n (bytesAt 8 (length (pairBytes r)))) (5 + length (pairBytes r)) (8 + length (pairBytes r))) (sym (c .says .same-through)) (sym (c .says .same-count));
+            ∙ ap₂ (λ (t n : ℕ). blockRead 12 (5 + length (pairBytes r)) (8 + length (pairBytes r)) (ackFields t n) (bytesAt 8 (length (pairBytes r)))) (sym (c .says .same-through)) (sym (c .says .same-count));
         fed = c .says .same-pairs ∙ sym (b .1) ∙ ap (λ (x : AckInfo). part (ackRoom x room) 8 (length (pairBytes r))) (sym same);
       }
 

@@ -19,8 +19,7 @@ use Rattle.header.specs.declared.Fields.{Fields}
 use Rattle.header.specs.declared.Answer.the-variants as Header
 use Rattle.header.specs.Reading.{headerAnswer, packetAfterRead}
 use Rattle.header.specs.Writing.{writeNumber, packetAfterWrite}
-use Rattle.blocks.specs.declared.Block.{Block}
-use Rattle.blocks.specs.declared.Read.the-variants as Got
+use Rattle.blocks.specs.declared.Extent.the-variants as End
 use Rattle.blocks.specs.declared.Written.the-variants as Wrote
 use Rattle.blocks.specs.Reading.{readAt}
 use Rattle.blocks_listing.specs.declared.Entry.{Entry}
@@ -63,7 +62,7 @@ HeaderWriteRefused =
 -- reading a block: 1 to 9, at the block's own place
 abbrev pub BlockReadRefused : Type 0
 BlockReadRefused =
-    (s : List ℕ) (at n place : ℕ) → readAt s at ≡ Got.Refused n place
+    (s : List ℕ) (at n place : ℕ) → readAt s at .extent ≡ End.Refused n place
     → OneOf (1 ∷ 2 ∷ 3 ∷ 4 ∷ 5 ∷ 6 ∷ 7 ∷ 8 ∷ 9 ∷ []) n × (place ≡ at)
 
 -- listing a payload: 1 to 10, and every record of the list stays
@@ -75,8 +74,8 @@ BlockListRefused =
 -- writing a block: 30 to 32, and the room stays
 abbrev pub BlockWriteRefused : Type 0
 BlockWriteRefused =
-    (b : Block) (body room : List ℕ) (n : ℕ) → writing b body (length room) ≡ Wrote.Refused n
-    → OneOf (30 ∷ 31 ∷ 32 ∷ []) n × (roomAfter b body room ≡ room)
+    (kind : ℕ) (fields body room : List ℕ) (n : ℕ) → writing kind fields body (length room) ≡ Wrote.Refused n
+    → OneOf (30 ∷ 31 ∷ 32 ∷ []) n × (roomAfter kind fields body room ≡ room)
 
 -- registering a number by value: 40, 42 or 43, and the tracker that is returned is the one that was given
 abbrev pub RegisterRefused : Type 0
@@ -97,10 +96,10 @@ AskRefused =
     × ((rec : List ℕ) → Refuses (reportThere rec .number) → OneOf (41 ∷ 59 ∷ []) (reportThere rec .number))
     × ((rec : List ℕ) (n : ℕ) → OneOf (0 ∷ 1 ∷ 59 ∷ []) (duplicateThere rec n))
 
--- the report as an Ack block: 30, 41 or 59, and the room stays, whatever the report
+-- the report of a record of any bytes as an Ack block: 30, 41 or 59; and the room stays, whatever the report
 abbrev pub AckBlockRefused : Type 0
 AckBlockRefused =
-    ((rec : List ℕ) (room n : ℕ) → ackWriting (reportThere rec) room ≡ Wrote.Refused n → OneOf (30 ∷ 41 ∷ 59 ∷ []) n)
+    ((rec : List ℕ) (room n : ℕ) → Bytes rec → ackWriting (reportThere rec) room ≡ Wrote.Refused n → OneOf (30 ∷ 41 ∷ 59 ∷ []) n)
     × ((r : AckInfo) (room : List ℕ) (n : ℕ) → ackWriting r (length room) ≡ Wrote.Refused n → ackRoom r room ≡ room)
 
 -- expanding an acknowledgement: 44 or 46, and the list stays

@@ -7,6 +7,7 @@ use types.Run.{OneOf}
 use Rattle.wire.specs.Parts.{splice}
 use Rattle.header.specs.declared.Answer.{Answer}
 use Rattle.blocks.specs.declared.Read.{Read}
+use Rattle.blocks.specs.Numbers.{readNumbers, writingBy, roomBy}
 use Rattle.blocks_listing.specs.declared.Entry.{Entry}
 use Rattle.blocks_listing.specs.Listing.{Listing, listingAnswer, entriesAfter}
 use Rattle.acks.specs.declared.AckInfo.{AckInfo}
@@ -14,8 +15,6 @@ use Rattle.acks.specs.AckBlocks.{ackWriting, ackRoom}
 use Rattle.numbers_outcomes.specs.Outcomes.{writeOutcome, readOutcome}
 use Rattle.numbers_outcomes.specs.Listings.{listOutcome}
 use Rattle.numbers.specs.Headers.{answerNumber, answerNumbers}
-use Rattle.numbers.specs.BlockNumbers.{readNumbers}
-use Rattle.numbers.specs.BlockFields.{writingBy, roomBy}
 use Rattle.numbers_outcomes.specs.Trackers.{newAnswer, newRecord, reportNumbers, reportPairs}
 use Rattle.numbers_outcomes.specs.Deliveries.{deliveredAt, deliverCall}
 use Rattle.sender.specs.Sender.{Call}

@@ -6,9 +6,8 @@ use mathlib.Core.List.{List, [], _∷_}
 use Prim.Native.Nat.{ℕ, _+_, _^_, _≤_, _<_}
 use lib.ListN.{length, take, drop, replicate}
 use Rattle.wire.specs.Parts.{part}
-use Rattle.blocks.specs.declared.Block.the-variants as Body
-use Rattle.blocks.specs.declared.Read.the-variants as Got
-use Rattle.blocks.specs.Reading.{bytesAt, readAt}
+use Rattle.blocks.specs.Names.{ackFields}
+use Rattle.blocks.specs.Reading.{bytesAt, blockRead, readAt}
 use Rattle.acks.specs.History.{Packets, answerTo, among, received, highestSeen, newest}
 use Rattle.acks.specs.Recorded.{trackerSize, trackerAt, registerThere, recordAll, duplicateThere, reportThere}
 use Rattle.acks.specs.AckBlocks.{ackWriting, ackRoom}
@@ -44,7 +43,7 @@ pub record Reported (calls : List ℕ) (r : AckInfo) (out pairs list : List ℕ)
 -- its Ack block as strawhub_tracker_ack_block writes it, read back where it stands, names the same
 pub record Sent (calls : List ℕ) (r : AckInfo) (room list : List ℕ) : Type 0 where
   pub wrote : writeOutcome (ackWriting r (length room)) ≡ outcome 0 (8 + r .len)
-  pub read : readAt (ackRoom r room) 0 ≡ Got.Block (Body.Ack (highestSeen calls) (r .count) (bytesAt 8 (r .len))) (5 + r .len) (8 + r .len)
+  pub read : readAt (ackRoom r room) 0 ≡ blockRead 12 (5 + r .len) (8 + r .len) (ackFields (highestSeen calls) (r .count)) (bytesAt 8 (r .len))
   pub exact : ExpandsTo (highestSeen calls) (r .count) (part (ackRoom r room) 8 (r .len)) list (newest calls)
 
 -- what the calls find in a record that a history of registrations left, where rec is the record that it began with

@@ -10,11 +10,9 @@ use lib.Dec.{eqb}
 use lib.ListN.{length, getD}
 use Rattle.wire.specs.Parts.{part}
 use Rattle.blocks.specs.declared.Part.{Part}
-use Rattle.blocks.specs.declared.Block.{Block}
-use Rattle.blocks.specs.declared.Block.the-variants as Body
-use Rattle.blocks.specs.declared.Read.the-variants as Got
+use Rattle.blocks.specs.Names.{messageFields, followOnFields}
 use Rattle.blocks.specs.Extent.{isI2npType}
-use Rattle.blocks.specs.Reading.{bytesAt, readAt}
+use Rattle.blocks.specs.Reading.{blockRead, readAt}
 use Rattle.blocks.specs.Writing.{roomAfter}
 use Rattle.reassembly.specs.Store.{Piece, first, follow, pieceBytes, Rebuilt}
 use Rattle.reassembly.specs.Runs.{Said}
@@ -28,18 +26,27 @@ use Rattle.numbers_outcomes.specs.Deliveries.{Told, deliverCall}
 use Rattle.promises.specs.Demand3.{Cut, Within, pieceOf, noCut, Event, deliver, sweepAt}
 use Rattle.promises.specs.Demand3Calls.{ScheduleInWidth, dueAt, ScheduleAt, Begins, Ends, LongEnough}
 
--- a payload has a block at a place, whose part of the payload has these bytes
-pub record HasBlock (s : List ℕ) (at : ℕ) (block : Part → Block) (bytes : List ℕ) : Type 0 where
+-- a payload has a block of a type with these fields at a place, whose part of the payload has these bytes
+pub record HasBlock (s : List ℕ) (at kind : ℕ) (fields bytes : List ℕ) : Type 0 where
   pub body : Part
   pub size : ℕ
   pub next : ℕ
-  pub read : readAt s at ≡ Got.Block (block body) size next
+  pub read : readAt s at ≡ blockRead kind size next fields body
   pub same-bytes : part s (body .start) (body .len) ≡ bytes
 
--- a piece is the block at a place: a first fragment with type, id and expiration, a follow-on with number, mark of the last and id
+-- the type of a piece's block: a first fragment, or a follow-on
+abbrev pub pieceKind : Piece → ℕ
+pieceKind (first id kind expires bytes) = 4
+pieceKind (follow id number final bytes) = 5
+
+-- its fields: type, id and expiration; or number with the mark of the last, and id
+abbrev pub pieceFields : Piece → List ℕ
+pieceFields (first id kind expires bytes) = messageFields kind id expires
+pieceFields (follow id number final bytes) = followOnFields number final id
+
+-- a piece is the block at a place
 abbrev pub HasPiece : List ℕ → ℕ → Piece → Type 0
-HasPiece s at (first id kind expires bytes) = HasBlock s at (λ p. Body.FirstFragment kind id expires p) bytes
-HasPiece s at (follow id number final bytes) = HasBlock s at (λ p. Body.FollowOnFragment number final id p) bytes
+HasPiece s at p = HasBlock s at (pieceKind p) (pieceFields p) (pieceBytes p)
 
 -- What a call is lent for itself: a payload and a place in it, the assembly buffer, the six numbers; whatever they hold.
 pub record Loan : Type 0 where
@@ -157,15 +164,10 @@ Demand3Deliveries =
     → (turns : List Handing) → own n turns ≡ handings n loans 0 es
     → FulfilledByDeliveries n cs loans rec room turns es
 
--- a piece as a block to be written; `pieceBytes` are written after its fields
-abbrev pub blockOf : Piece → Block
-blockOf (first id kind expires bytes) = Body.FirstFragment kind id expires (bytesAt 0 0)
-blockOf (follow id number final bytes) = Body.FollowOnFragment number final id (bytesAt 0 0)
-
 -- Such payloads exist: what the block writer leaves in a room of 1,512 bytes or more for a piece of a message within the limits, of a listed type, is that piece.
 abbrev pub WrittenIsHanded : Type 0
 WrittenIsHanded =
     (c : Cut) → Within c → isI2npType (c .kind) ≡ true → c .id < 4294967296 → c .expires < 4294967296
     → (i : ℕ) → i < length (c .pieces)
     → (room : List ℕ) → 1512 ≤ length room
-    → HasPiece (roomAfter (blockOf (pieceOf c i)) (pieceBytes (pieceOf c i)) room) 0 (pieceOf c i)
+    → HasPiece (roomAfter (pieceKind (pieceOf c i)) (pieceFields (pieceOf c i)) (pieceBytes (pieceOf c i)) room) 0 (pieceOf c i)

@@ -8,9 +8,8 @@ use lib.Dec.{eqb}
 use lib.ListN.{length, drop}
 use Rattle.wire.specs.Parts.{part}
 use Rattle.blocks.specs.declared.Part.{Part}
-use Rattle.blocks.specs.declared.Block.the-variants as Body
-use Rattle.blocks.specs.declared.Read.the-variants as Got
-use Rattle.blocks.specs.Reading.{readAt}
+use Rattle.blocks.specs.Names.{ackFields}
+use Rattle.blocks.specs.Reading.{blockRead, readAt}
 use Rattle.acks.specs.History.{among}
 use Rattle.acks.specs.declared.AckInfo.{AckInfo}
 use Rattle.acks.specs.Recorded.{registerThere, recordAll, reportThere}
@@ -68,7 +67,7 @@ pub record Carried (far : List ℕ) (past : List Event) (through count : ℕ) (p
   pub at : Part
   pub size : ℕ
   pub next : ℕ
-  pub read : readAt (ackRoom (reportAt far (drop ago past)) room) 0 ≡ Got.Block (Body.Ack through count at) size next
+  pub read : readAt (ackRoom (reportAt far (drop ago past)) room) 0 ≡ blockRead 12 size next (ackFields through count) at
   pub fed : pairs ≡ part (ackRoom (reportAt far (drop ago past)) room) (at .start) (at .len)
 
 -- every ack fed in was. That every Ack block comes, or once, or in turn, is not said

@@ -5,10 +5,10 @@ use mathlib.Core.List.{List, [], _∷_}
 use Prim.Native.Nat.{ℕ}
 use lib.ListN.{length}
 use Rattle.wire.specs.Parts.{part}
-use Rattle.blocks.specs.declared.Block.the-variants as Body
 use Rattle.blocks.specs.declared.Read.{Read}
-use Rattle.blocks.specs.declared.Read.the-variants as Got
-use Rattle.blocks.specs.Reading.{bytesAt, readAt}
+use Rattle.blocks.specs.Layout.{eight}
+use Rattle.blocks.specs.Names.{ackFields}
+use Rattle.blocks.specs.Reading.{bytesAt, blockRead, readRefused, readAt}
 use Rattle.blocks.specs.Claims.{shownBytes}
 use Rattle.blocks_listing.specs.Listing.{Listing, no, blocksOf}
 use Rattle.acks.specs.Tracking.{fresh, registerOf}
@@ -16,11 +16,6 @@ use Rattle.acks.specs.Reporting.{reportOfRuns}
 use Rattle.acks.specs.Expanding.{ackNumbers}
 use Rattle.reassembly.specs.Store as Store
 use Rattle.promises.specs.Acks.{reportAfter}
-
--- the bytes that a block read from a payload shows
-abbrev pub readBytes : List ℕ → Read → List ℕ
-readBytes s (Got.Block b size next) = shownBytes s b
-readBytes s (Got.Refused number place) = []
 
 -- a case: what is given, and what comes of it
 pub data Case : Type 0 where
@@ -39,17 +34,17 @@ pub data Case : Type 0 where
 
 -- what a case says of the definitions
 abbrev pub Holds : Case → Type 0
-Holds (reads s r bytes) = (readAt s 0 ≡ r) × (readBytes s r ≡ bytes)
+Holds (reads s r bytes) = (readAt s 0 ≡ r) × (shownBytes s r ≡ bytes)
 Holds (lists s l) = blocksOf s ≡ l
 Holds (expands s t c size next pairs names) =
-    (readAt s 0 ≡ Got.Block (Body.Ack t c (bytesAt 8 (length pairs))) size next) × (part s 8 (length pairs) ≡ pairs) × (ackNumbers t c pairs ≡ names)
+    (readAt s 0 ≡ blockRead 12 size next (ackFields t c) (bytesAt 8 (length pairs))) × (part s 8 (length pairs) ≡ pairs) × (ackNumbers t c pairs ≡ names)
 Holds (reports calls through runs) = reportAfter calls ≡ reportOfRuns through runs
 Holds (registers n answer) = registerOf fresh n .answer ≡ answer
 Holds (rebuilds ps answers) = Store.stepNumbers Store.newStore ps ≡ answers
 
 -- (a) `00 0000 00000007`: time 7
 abbrev pub caseA : Case
-caseA = reads (0x00 ∷ 0x00 ∷ 0x00 ∷ 0x00 ∷ 0x00 ∷ 0x00 ∷ 0x07 ∷ []) (Got.Block (Body.DateTime 7) 0 7) []
+caseA = reads (0x00 ∷ 0x00 ∷ 0x00 ∷ 0x00 ∷ 0x00 ∷ 0x00 ∷ 0x07 ∷ []) (blockRead 0 0 7 (eight (7 ∷ [])) (bytesAt 0 0)) []
 
 -- (b) `0C 0006 0000000A 02 01`: 1 at 8
 abbrev pub caseB : Case
@@ -61,19 +56,19 @@ caseC = expands (0x0C ∷ 0x00 ∷ 0x07 ∷ 0x00 ∷ 0x00 ∷ 0x00 ∷ 0x0A ∷ 
 
 -- (d) `0D 0007 1F90`: 8 at 0
 abbrev pub caseD : Case
-caseD = reads (0x0D ∷ 0x00 ∷ 0x07 ∷ 0x1F ∷ 0x90 ∷ []) (Got.Refused 8 0) []
+caseD = reads (0x0D ∷ 0x00 ∷ 0x07 ∷ 0x1F ∷ 0x90 ∷ []) (readRefused 8 0) []
 
 -- (e) `0D 0006 1F90 0A000001`: 10.0.0.1, port 8080
 abbrev pub caseE : Case
-caseE = reads (0x0D ∷ 0x00 ∷ 0x06 ∷ 0x1F ∷ 0x90 ∷ 0x0A ∷ 0x00 ∷ 0x00 ∷ 0x01 ∷ []) (Got.Block (Body.Address 8080 (bytesAt 5 4)) 6 9) (10 ∷ 0 ∷ 0 ∷ 1 ∷ [])
+caseE = reads (0x0D ∷ 0x00 ∷ 0x06 ∷ 0x1F ∷ 0x90 ∷ 0x0A ∷ 0x00 ∷ 0x00 ∷ 0x01 ∷ []) (blockRead 13 6 9 (eight (8080 ∷ [])) (bytesAt 5 4)) (10 ∷ 0 ∷ 0 ∷ 1 ∷ [])
 
 -- (f) `04 0009 0B 00000001 00000002`: 4
 abbrev pub caseF : Case
-caseF = reads (0x04 ∷ 0x00 ∷ 0x09 ∷ 0x0B ∷ 0x00 ∷ 0x00 ∷ 0x00 ∷ 0x01 ∷ 0x00 ∷ 0x00 ∷ 0x00 ∷ 0x02 ∷ []) (Got.Refused 4 0) []
+caseF = reads (0x04 ∷ 0x00 ∷ 0x09 ∷ 0x0B ∷ 0x00 ∷ 0x00 ∷ 0x00 ∷ 0x01 ∷ 0x00 ∷ 0x00 ∷ 0x00 ∷ 0x02 ∷ []) (readRefused 4 0) []
 
 -- (g) the same with size 000A: 5
 abbrev pub caseG : Case
-caseG = reads (0x04 ∷ 0x00 ∷ 0x0A ∷ 0x0B ∷ 0x00 ∷ 0x00 ∷ 0x00 ∷ 0x01 ∷ 0x00 ∷ 0x00 ∷ 0x00 ∷ 0x02 ∷ []) (Got.Refused 5 0) []
+caseG = reads (0x04 ∷ 0x00 ∷ 0x0A ∷ 0x0B ∷ 0x00 ∷ 0x00 ∷ 0x00 ∷ 0x01 ∷ 0x00 ∷ 0x00 ∷ 0x00 ∷ 0x02 ∷ []) (readRefused 5 0) []
 
 -- (h) Register 5: through 5, count 0, (4,1)
 abbrev pub caseH : Case

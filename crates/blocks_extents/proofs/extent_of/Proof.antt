@@ -2,7 +2,8 @@ use mathlib.Core.Path.{sym, ap, _∙_}
 use native.Mathlib.Omega.{arith}
 use Prim.Native.Nat.{_+_}
 use Rattle.blocks.specs.Extent.{takenAt, kindAt}
-use Rattle.blocks.proofs.Ends.{taken-holds, ended, cut}
+use Rattle.blocks.proofs.Soundness.{taken-holds}
+use Rattle.blocks.proofs.Ends.{ended, cut}
 use borrow.Author.Needs.{needs}
 use Rattle.blocks_extents.proofs.extent_of.Statement.{statement}
 use Rattle.blocks_extents.proofs.extent_of.Tie as tie

@@ -18,6 +18,9 @@ returns c = let a = c .before .before .args in simp (lt-ltb (length (a .payload 
 shared-slice-read-is-listed : tie.Need-shared-slice-read-is-listed
 shared-slice-read-is-listed c = search needs
 
+cast-is-listed : tie.Need-cast-is-listed
+cast-is-listed c = omega (arith, c .shared-slice-known2 .given (c .before .before .before .args .body))
+
 is-listed-requires : tie.Need-is-listed-requires
 is-listed-requires c κs = search needs
 
@@ -44,6 +47,7 @@ first-fragment-spec =
     sub-there
     returns
     shared-slice-read-is-listed
+    cast-is-listed
     is-listed-requires
     returns-2
     returns-3

@@ -22,6 +22,9 @@ returns-2 c = let a = c .before .before .before .args in simp (le-ltb (a .size) 
 shared-slice-read-is-listed : tie.Need-shared-slice-read-is-listed
 shared-slice-read-is-listed c = search needs
 
+cast-is-listed : tie.Need-cast-is-listed
+cast-is-listed c = omega (arith, c .shared-slice-known2 .given (c .before .before .before .before .args .body))
+
 is-listed-requires : tie.Need-is-listed-requires
 is-listed-requires c κs = search needs
 
@@ -44,6 +47,7 @@ i2np-spec =
     returns
     returns-2
     shared-slice-read-is-listed
+    cast-is-listed
     is-listed-requires
     takes-bytes-requires
     returns-3

@@ -10,15 +10,6 @@ use Rattle.blocks_extents.proofs.taken_at.Tie as tie
 sub-there : tie.Need-sub-there
 sub-there c = search needs
 
-takes-bytes-requires : tie.Need-takes-bytes-requires
-takes-bytes-requires c κs = search needs
-
-at-least-requires : tie.Need-at-least-requires
-at-least-requires c κs = search needs
-
-takes-bytes-requires-2 : tie.Need-takes-bytes-requires-2
-takes-bytes-requires-2 c κs = search needs
-
 router-info-requires : tie.Need-router-info-requires
 router-info-requires c κs = search needs
 
@@ -31,138 +22,76 @@ first-fragment-requires c κs = search needs
 follow-on-requires : tie.Need-follow-on-requires
 follow-on-requires c κs = search needs
 
-at-least-requires-2 : tie.Need-at-least-requires-2
-at-least-requires-2 c κs = search needs
-
-takes-bytes-requires-3 : tie.Need-takes-bytes-requires-3
-takes-bytes-requires-3 c κs = search needs
-
 pair-bytes-in-requires : tie.Need-pair-bytes-in-requires
 pair-bytes-in-requires c κs = search needs
 
 add-takes-bytes : tie.Need-add-takes-bytes
 add-takes-bytes c = search needs
 
-takes-bytes-requires-4 : tie.Need-takes-bytes-requires-4
-takes-bytes-requires-4 c κs = search needs
+takes-bytes-requires : tie.Need-takes-bytes-requires
+takes-bytes-requires c κs = search needs
 
 address-requires : tie.Need-address-requires
 address-requires c κs = search needs
 
-takes-bytes-requires-5 : tie.Need-takes-bytes-requires-5
-takes-bytes-requires-5 c κs = search needs
+plain-length-requires : tie.Need-plain-length-requires
+plain-length-requires c κs = search needs
 
-takes-bytes-requires-6 : tie.Need-takes-bytes-requires-6
-takes-bytes-requires-6 c κs = search needs
-
-takes-bytes-requires-7 : tie.Need-takes-bytes-requires-7
-takes-bytes-requires-7 c κs = search needs
-
-takes-bytes-requires-8 : tie.Need-takes-bytes-requires-8
-takes-bytes-requires-8 c κs = search needs
-
-takes-bytes-requires-9 : tie.Need-takes-bytes-requires-9
-takes-bytes-requires-9 c κs = search needs
-
-takes-bytes-requires-10 : tie.Need-takes-bytes-requires-10
-takes-bytes-requires-10 c κs = search needs
+takes-bytes-requires-2 : tie.Need-takes-bytes-requires-2
+takes-bytes-requires-2 c κs = search needs
 
 returns : tie.Need-returns
 unfolding takenAt
-returns c = let a = c .before .before .before .args in c .takes-bytes .ensures ∙ sym (ap (λ (k : ℕ). takenAt (a .payload .now) (a .body) k (a .size)) (c .before .match .keys1))
+returns c = let a = c .before .before .before .args in c .router-info .ensures ∙ sym (ap (λ (k : ℕ). takenAt (a .payload .now) (a .body) k (a .size)) (c .before .match .keys1))
 
 returns-2 : tie.Need-returns-2
 unfolding takenAt
-returns-2 c = let a = c .before .before .before .before .args in c .takes-bytes2 .ensures ∙ ap (λ (z : ℕ). takesBytes z (length (a .payload .now) - a .body)) (c .before .at-least .ensures) ∙ sym (ap (λ (k : ℕ). takenAt (a .payload .now) (a .body) k (a .size)) (c .before .before .match .keys2))
+returns-2 c = let a = c .before .before .before .args in c .i2np .ensures ∙ sym (ap (λ (k : ℕ). takenAt (a .payload .now) (a .body) k (a .size)) (c .before .match .keys2))
 
 returns-3 : tie.Need-returns-3
 unfolding takenAt
-returns-3 c = let a = c .before .before .before .args in c .router-info .ensures ∙ sym (ap (λ (k : ℕ). takenAt (a .payload .now) (a .body) k (a .size)) (c .before .match .keys3))
+returns-3 c = let a = c .before .before .before .args in c .first-fragment .ensures ∙ sym (ap (λ (k : ℕ). takenAt (a .payload .now) (a .body) k (a .size)) (c .before .match .keys3))
 
 returns-4 : tie.Need-returns-4
 unfolding takenAt
-returns-4 c = let a = c .before .before .before .args in c .i2np .ensures ∙ sym (ap (λ (k : ℕ). takenAt (a .payload .now) (a .body) k (a .size)) (c .before .match .keys4))
+returns-4 c = let a = c .before .before .before .args in c .follow-on .ensures ∙ sym (ap (λ (k : ℕ). takenAt (a .payload .now) (a .body) k (a .size)) (c .before .match .keys4))
 
 returns-5 : tie.Need-returns-5
 unfolding takenAt
-returns-5 c = let a = c .before .before .before .args in c .first-fragment .ensures ∙ sym (ap (λ (k : ℕ). takenAt (a .payload .now) (a .body) k (a .size)) (c .before .match .keys5))
+returns-5 c = let a = c .before .before .before .before .args in c .takes-bytes .ensures ∙ ap (λ (z : ℕ). takesBytes (5 + z) (length (a .payload .now) - a .body)) (c .before .pair-bytes-in .ensures .0) ∙ sym (ap (λ (k : ℕ). takenAt (a .payload .now) (a .body) k (a .size)) (c .before .before .match .keys5))
 
 returns-6 : tie.Need-returns-6
 unfolding takenAt
-returns-6 c = let a = c .before .before .before .args in c .follow-on .ensures ∙ sym (ap (λ (k : ℕ). takenAt (a .payload .now) (a .body) k (a .size)) (c .before .match .keys6))
+returns-6 c = let a = c .before .before .before .args in c .address .ensures ∙ sym (ap (λ (k : ℕ). takenAt (a .payload .now) (a .body) k (a .size)) (c .before .match .keys6))
 
 returns-7 : tie.Need-returns-7
 unfolding takenAt
-returns-7 c = let a = c .before .before .before .before .args in c .takes-bytes3 .ensures ∙ ap (λ (z : ℕ). takesBytes z (length (a .payload .now) - a .body)) (c .before .at-least2 .ensures) ∙ sym (ap (λ (k : ℕ). takenAt (a .payload .now) (a .body) k (a .size)) (c .before .before .match .keys7))
-
-returns-8 : tie.Need-returns-8
-unfolding takenAt
-returns-8 c = let a = c .before .before .before .before .args in c .takes-bytes4 .ensures ∙ ap (λ (z : ℕ). takesBytes (5 + z) (length (a .payload .now) - a .body)) (c .before .pair-bytes-in .ensures .0) ∙ sym (ap (λ (k : ℕ). takenAt (a .payload .now) (a .body) k (a .size)) (c .before .before .match .keys8))
-
-returns-9 : tie.Need-returns-9
-unfolding takenAt
-returns-9 c = let a = c .before .before .before .args in c .address .ensures ∙ sym (ap (λ (k : ℕ). takenAt (a .payload .now) (a .body) k (a .size)) (c .before .match .keys9))
-
-returns-10 : tie.Need-returns-10
-unfolding takenAt
-returns-10 c = let a = c .before .before .before .args in c .takes-bytes5 .ensures ∙ sym (ap (λ (k : ℕ). takenAt (a .payload .now) (a .body) k (a .size)) (c .before .match .keys10))
-
-returns-11 : tie.Need-returns-11
-unfolding takenAt
-returns-11 c = let a = c .before .before .before .args in c .takes-bytes6 .ensures ∙ sym (ap (λ (k : ℕ). takenAt (a .payload .now) (a .body) k (a .size)) (c .before .match .keys11))
-
-returns-12 : tie.Need-returns-12
-unfolding takenAt
-returns-12 c = let a = c .before .before .before .args in c .takes-bytes7 .ensures ∙ sym (ap (λ (k : ℕ). takenAt (a .payload .now) (a .body) k (a .size)) (c .before .match .keys12))
-
-returns-13 : tie.Need-returns-13
-unfolding takenAt
-returns-13 c = let a = c .before .before .before .args in c .takes-bytes8 .ensures ∙ sym (ap (λ (k : ℕ). takenAt (a .payload .now) (a .body) k (a .size)) (c .before .match .keys13))
-
-returns-14 : tie.Need-returns-14
-unfolding takenAt
-returns-14 c = let a = c .before .before .before .args in c .takes-bytes9 .ensures ∙ sym (ap (λ (k : ℕ). takenAt (a .payload .now) (a .body) k (a .size)) (c .before .match .keys14))
-
-returns-15 : tie.Need-returns-15
-unfolding takenAt
-returns-15 c = let n = c .before .match .rest in c .takes-bytes10 .ensures ∙ sym (simp (ne-eqb _ _ (n .0 .0 .0 .0 .0 .0 .0 .0 .0 .0 .0 .0 .0 .1), ne-eqb _ _ (n .0 .0 .0 .0 .0 .0 .0 .0 .0 .0 .0 .0 .1), ne-eqb _ _ (n .0 .0 .0 .0 .0 .0 .0 .0 .0 .0 .0 .1), ne-eqb _ _ (n .0 .0 .0 .0 .0 .0 .0 .0 .0 .0 .1), ne-eqb _ _ (n .0 .0 .0 .0 .0 .0 .0 .0 .0 .1), ne-eqb _ _ (n .0 .0 .0 .0 .0 .0 .0 .0 .1), ne-eqb _ _ (n .0 .0 .0 .0 .0 .0 .0 .1), ne-eqb _ _ (n .0 .0 .0 .0 .0 .0 .1), ne-eqb _ _ (n .0 .0 .0 .0 .0 .1), ne-eqb _ _ (n .0 .0 .0 .0 .1), ne-eqb _ _ (n .0 .0 .0 .1), ne-eqb _ _ (n .0 .0 .1), ne-eqb _ _ (n .0 .1), ne-eqb _ _ (n .1)))
+returns-7 c =
+    let a = c .before .before .before .before .args in
+    let n = c .before .before .match .rest in
+    c .takes-bytes2 .ensures
+    ∙ ap (λ (z : ℕ). takesBytes z (length (a .payload .now) - a .body)) (c .before .plain-length .ensures)
+    ∙ sym (simp (ne-eqb _ _ (n .0 .0 .0 .0 .0 .1), ne-eqb _ _ (n .0 .0 .0 .0 .1), ne-eqb _ _ (n .0 .0 .0 .1), ne-eqb _ _ (n .0 .0 .1), ne-eqb _ _ (n .0 .1), ne-eqb _ _ (n .1)))
 
 pub taken-at-spec : {M : Type 1} → statement M
 taken-at-spec =
     tie.close
     (tie.spec
     sub-there
-    takes-bytes-requires
-    at-least-requires
-    takes-bytes-requires-2
     router-info-requires
     i2np-requires
     first-fragment-requires
     follow-on-requires
-    at-least-requires-2
-    takes-bytes-requires-3
     pair-bytes-in-requires
     add-takes-bytes
-    takes-bytes-requires-4
+    takes-bytes-requires
     address-requires
-    takes-bytes-requires-5
-    takes-bytes-requires-6
-    takes-bytes-requires-7
-    takes-bytes-requires-8
-    takes-bytes-requires-9
-    takes-bytes-requires-10
+    plain-length-requires
+    takes-bytes-requires-2
     returns
     returns-2
     returns-3
     returns-4
     returns-5
     returns-6
-    returns-7
-    returns-8
-    returns-9
-    returns-10
-    returns-11
-    returns-12
-    returns-13
-    returns-14
-    returns-15)
+    returns-7)

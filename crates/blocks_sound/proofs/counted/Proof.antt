@@ -3,7 +3,8 @@ use mathlib.Core.Bool.{Bool, true, false, _&&_, _||_}
 use Prim.Native.Nat.{_%_}
 use native.Mathlib.Omega.{arith}
 use lib.Dec.{eqb}
-use Rattle.blocks.specs.Sound.{ignoresSize, counted}
+use Rattle.blocks.specs.Extent.{ignoresSize}
+use Rattle.blocks.specs.Sound.{counted}
 use borrow.Author.Needs.{needs}
 use Rattle.blocks_sound.proofs.counted.Statement.{statement}
 use Rattle.blocks_sound.proofs.counted.Tie as tie

@@ -3,7 +3,9 @@ use mathlib.Core.Bool.{Bool, cond}
 use Prim.Native.Nat.{ℕ, _*_, _/_, _%_, _^_}
 use lib.Dec.{ltb, eqb}
 use borrow.Author.Tests.{eqb-true}
-use Rattle.blocks.specs.Sound.{floorOf}
+use Rattle.blocks.specs.Layout.{sum}
+use Rattle.blocks.specs.Table.{look, widths, fieldLength}
+use Rattle.blocks.specs.Sound.{isSized, floorOf}
 use Rattle.blocks.proofs.Tables.{at}
 use borrow.Author.Needs.{needs}
 use Rattle.blocks_sound.proofs.floor_of.Statement.{statement}
@@ -32,7 +34,7 @@ shr-result : tie.Need-shr-result
 shr-result c = search needs
 
 returns : tie.Need-returns
-unfolding floorOf
+unfolding floorOf isSized fieldLength widths look sum
 returns c = let k = c .before .args .kind in ap (shown k) (c .row-of .ensures) ∙ eqb-true (shown k (row k)) (floorOf k) (at right 22 refl k (c .before .pre))
 
 pub floor-of-spec : {M : Type 1} → statement M

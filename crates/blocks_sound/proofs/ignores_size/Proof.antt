@@ -2,7 +2,8 @@ use mathlib.Core.Path.{_≡_, refl}
 use mathlib.Core.Bool.{Bool, true, false, not}
 use Prim.Native.Nat.{ℕ, _/_, _%_, _^_}
 use lib.Dec.{eqb}
-use Rattle.blocks.specs.Sound.{ignoresSize}
+use Rattle.blocks.specs.Table.{look, afterFields}
+use Rattle.blocks.specs.Extent.{ignoresSize}
 use Rattle.blocks.proofs.Tables.{at}
 use borrow.Author.Needs.{needs}
 use Rattle.blocks_sound.proofs.ignores_size.Statement.{statement}
@@ -29,7 +30,7 @@ shr-result : tie.Need-shr-result
 shr-result c = search needs
 
 returns : tie.Need-returns
-unfolding ignoresSize
+unfolding ignoresSize afterFields look
 returns c = let k = c .args .kind in same (bit k) (ignoresSize k) (at right 22 refl k (c .pre))
 
 pub ignores-size-spec : {M : Type 1} → statement M

@@ -5,7 +5,7 @@ use native.Mathlib.Omega.{arith}
 use lib.Dec.{eqb}
 use borrow.Author.Tests.{le-leb, lt-leb}
 use Rattle.blocks.specs.Sound.{sound}
-use Rattle.blocks.proofs.Soundness.{message-length}
+use Rattle.blocks.proofs.Lengths.{message-length}
 use borrow.Author.Needs.{needs}
 use Rattle.blocks_sound.proofs.is_sound.Statement.{statement}
 use Rattle.blocks_sound.proofs.is_sound.Tie as tie
@@ -19,6 +19,9 @@ returns c = let a = c .before .before .before .args in let t : (eqb (a .kind) 3 
 
 shared-slice-read-is-listed : tie.Need-shared-slice-read-is-listed
 shared-slice-read-is-listed c = let a = c .before .before .before .before .args in let t : (eqb (a .kind) 3 || eqb (a .kind) 4) ≡ true = c .before .before .if1 .taken in omega (arith, c .before .before .before .before .pre, message-length (a .kind) (a .size) t, c .before .if2 .left)
+
+cast-is-listed : tie.Need-cast-is-listed
+cast-is-listed c = omega (arith, c .shared-slice-known2 .given (c .before .before .before .before .args .body))
 
 is-listed-requires : tie.Need-is-listed-requires
 is-listed-requires c κs = search needs
@@ -41,6 +44,7 @@ is-sound-spec =
     add-if2
     returns
     shared-slice-read-is-listed
+    cast-is-listed
     is-listed-requires
     returns-2
     is-tested-requires

@@ -25,8 +25,8 @@ returns c =
     let refused : a .report .number ≡ 0 → ⊥ = c .if1 .taken in
     (simp (ne-eqb (a .report .number) 0 refused), simp (ne-eqb (a .report .number) 0 refused))
 
-block-of-requires : tie.Need-block-of-requires
-block-of-requires c κs = search needs
+fields-of-requires : tie.Need-fields-of-requires
+fields-of-requires c κs = search needs
 
 array-share-prefix-pairs : tie.Need-array-share-prefix-pairs
 array-share-prefix-pairs c = omega (arith, long (c .before .before .before .before .before), c .before .before .shorter .ensures)
@@ -48,8 +48,8 @@ returns-2 c =
     let cut : min (a .report .len) 254 ≡ min (a .report .len) (length (a .report .pairs)) = ap (min (a .report .len)) (sym (long (c .before .before .before .before .before .before .before .before .before .before))) in
     let pairs : take (len .result) (a .report .pairs) ≡ take (a .report .len) (a .report .pairs) =
     ap (λ (k : ℕ). take k (a .report .pairs)) (len .ensures ∙ cut) ∙ take-min (a .report .len) (a .report .pairs) in
-    handed (a .report) (a .room .now) (take (len .result) (a .report .pairs)) (c .before .before .write-block .last .1 .1 .0) (c .before .before .before .before .before .block-of .result)
-    (c .before .before .write-block .result) (c .before .before .before .before .before .before .if1 .left) (c .before .before .before .before .before .block-of .ensures) pairs (c .before .before .write-block .ensures .0) (c .before .before .write-block .ensures .1)
+    handed (a .report) (a .room .now) (take (len .result) (a .report .pairs)) (c .before .before .write-block .last .1 .1 .1 .0) (c .before .before .before .before .before .fields-of .result)
+    (c .before .before .write-block .result) (c .before .before .before .before .before .before .if1 .left) (c .before .before .before .before .before .fields-of .ensures) pairs (c .before .before .write-block .ensures .0) (c .before .before .write-block .ensures .1)
 
 pub write-ack-spec : {M : Type 1} → statement M
 write-ack-spec =
@@ -57,7 +57,7 @@ write-ack-spec =
     (tie.spec
     shorter-requires
     returns
-    block-of-requires
+    fields-of-requires
     array-share-prefix-pairs
     slice-aggregate-write-block
     write-block-requires
