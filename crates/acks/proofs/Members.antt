@@ -8,37 +8,37 @@ use lib.Dec.{eqb}
 use lib.ListN.{length}
 use borrow.Author.Tests.{eqb-true}
 use Rattle.acks.specs.Window.{keep}
-use Rattle.acks.specs.History.{highestOf, among}
-use Rattle.acks.proofs.Falling.{length-keep}
+use Rattle.acks.specs.History.{highest_of, among}
+use Rattle.acks.proofs.Falling.{length_keep}
 
-pub among-append : (l m : List ℕ) (n : ℕ) → among (l ++ m) n ≡ (among l n || among m n)
+pub among_append : (l m : List ℕ) (n : ℕ) → among (l ++ m) n ≡ (among l n || among m n)
 unfolding among
-among-append [] m n = refl
-among-append (k ∷ l) m n = ap (λ b. eqb n k || b) (among-append l m n) ∙ sym (or_assoc (eqb n k) (among l n) (among m n))
+among_append [] m n = refl
+among_append (k ∷ l) m n = ap (λ b. eqb n k || b) (among_append l m n) ∙ sym (or_assoc (eqb n k) (among l n) (among m n))
 
-pub highest-append : (l : List ℕ) (m : ℕ) → highestOf (l ++ (m ∷ [])) ≡ max (highestOf l) m
-unfolding highestOf
-highest-append [] m = omega arith
-highest-append (k ∷ l) m = let e = highest-append l m in omega arith
+pub highest_append : (l : List ℕ) (m : ℕ) → highest_of (l ++ (m ∷ [])) ≡ max (highest_of l) m
+unfolding highest_of
+highest_append [] m = omega arith
+highest_append (k ∷ l) m = let e = highest_append l m in omega arith
 
-pub below-highest : (l : List ℕ) (n : ℕ) → among l n ≡ true → n ≤ highestOf l
-unfolding among highestOf
-below-highest [] n h = absurd (false≢true h)
-below-highest (k ∷ l) n h = go (eqb n k) refl (below-highest l n) h
+pub below_highest : (l : List ℕ) (n : ℕ) → among l n ≡ true → n ≤ highest_of l
+unfolding among highest_of
+below_highest [] n h = absurd (false≢true h)
+below_highest (k ∷ l) n h = go (eqb n k) refl (below_highest l n) h
   where
-    go : (b : Bool) → eqb n k ≡ b → (among l n ≡ true → n ≤ highestOf l) → (b || among l n) ≡ true → n ≤ max k (highestOf l)
+    go : (b : Bool) → eqb n k ≡ b → (among l n ≡ true → n ≤ highest_of l) → (b || among l n) ≡ true → n ≤ max k (highest_of l)
     go true e more h = let q = eqb-true n k e in omega arith
     go false e more h = let q = more h in omega arith
 
 -- fewer are left where a test does not take one of them
-pub fewer-kept : (p : ℕ → Bool) (l : List ℕ) (n : ℕ) → among l n ≡ true → p n ≡ false → length (keep p l) < length l
+pub fewer_kept : (p : ℕ → Bool) (l : List ℕ) (n : ℕ) → among l n ≡ true → p n ≡ false → length (keep p l) < length l
 unfolding among keep
-fewer-kept p [] n h e = absurd (false≢true h)
-fewer-kept p (k ∷ l) n h e = go (eqb n k) refl (p k) refl (fewer-kept p l n) h
+fewer_kept p [] n h e = absurd (false≢true h)
+fewer_kept p (k ∷ l) n h e = go (eqb n k) refl (p k) refl (fewer_kept p l n) h
   where
     go :
         (a : Bool) → eqb n k ≡ a → (b : Bool) → p k ≡ b → (among l n ≡ true → p n ≡ false → length (keep p l) < length l)
         → (a || among l n) ≡ true → length (cond b (k ∷ keep p l) (keep p l)) < suc (length l)
-    go a f false g more h = let q = length-keep p l in omega arith
+    go a f false g more h = let q = length_keep p l in omega arith
     go true f true g more h = absurd (false≢true (sym e ∙ ap p (eqb-true n k f) ∙ g))
     go false f true g more h = let q = more h e in omega arith

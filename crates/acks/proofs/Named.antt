@@ -8,22 +8,22 @@ use native.Mathlib.Numerals.{add-one, add-two}
 use lib.ListN.{length, drop, get_or, replicate, length-append, length-drop}
 use lib.Seq.{drop-cons}
 use Rattle.acks.specs.Window.{falling}
-use Rattle.acks.specs.Runs.{flags, named, wholePairs, runSum}
-use Rattle.acks.specs.Expanding.{ackNumbers}
-use Rattle.acks.proofs.Falling.{length-falling}
+use Rattle.acks.specs.Runs.{flags, named, whole_pairs, run_sum}
+use Rattle.acks.specs.Expanding.{ack_numbers}
+use Rattle.acks.proofs.Falling.{length_falling}
 
 -- ---- whole pairs
-pub whole-two : (a b : ℕ) (r : List ℕ) → wholePairs (a ∷ (b ∷ r)) ≡ a ∷ (b ∷ wholePairs r)
-unfolding wholePairs
-whole-two a b r =
+pub whole_two : (a b : ℕ) (r : List ℕ) → whole_pairs (a ∷ (b ∷ r)) ≡ a ∷ (b ∷ whole_pairs r)
+unfolding whole_pairs
+whole_two a b r =
     let e : suc (suc (length r)) - suc (suc (length r)) % 2 ≡ suc (suc (length r - length r % 2)) = omega arith in
     rw e
 
-whole-short : (l : List ℕ) → length l < 2 → wholePairs l ≡ []
-unfolding wholePairs
-whole-short [] h = refl
-whole-short (a ∷ []) h = refl
-whole-short (a ∷ (b ∷ l)) h = absurd (omega arith)
+whole_short : (l : List ℕ) → length l < 2 → whole_pairs l ≡ []
+unfolding whole_pairs
+whole_short [] h = refl
+whole_short (a ∷ []) h = refl
+whole_short (a ∷ (b ∷ l)) h = absurd (omega arith)
 
 pub at_pair : (ps : List ℕ) (i : ℕ) → i + 1 < length ps → drop i ps ≡ get_or ps i 0 ∷ (get_or ps (i + 1) 0 ∷ drop (i + 2) ps)
 at_pair ps i h =
@@ -33,81 +33,81 @@ at_pair ps i h =
     (drop-cons ps i 0 p ∙ ap (λ l. get_or ps i 0 ∷ l) (drop-cons ps (suc i) 0 q))
 
 -- ---- named numbers
-sub-suc : (n a : ℕ) → n - 1 - a ≡ n - suc a
-sub-suc n a = omega arith
+sub_suc : (n a : ℕ) → n - 1 - a ≡ n - suc a
+sub_suc n a = omega arith
 
-sub-none : (n : ℕ) → n - 0 ≡ n
-sub-none n = omega arith
+sub_none : (n : ℕ) → n - 0 ≡ n
+sub_none n = omega arith
 
-named-skip : (n a : ℕ) (l : List Bool) → named n (replicate a false ++ l) ≡ named (n - a) l
+named_skip : (n a : ℕ) (l : List Bool) → named n (replicate a false ++ l) ≡ named (n - a) l
 unfolding named
-named-skip n zero l = rw (sub-none n)
-named-skip n (suc a) l = named-skip (n - 1) a l ∙ rw (sub-suc n a)
+named_skip n zero l = rw (sub_none n)
+named_skip n (suc a) l = named_skip (n - 1) a l ∙ rw (sub_suc n a)
 
-named-take : (n b : ℕ) (l : List Bool) → named n (replicate b true ++ l) ≡ falling n b ++ named (n - b) l
+named_take : (n b : ℕ) (l : List Bool) → named n (replicate b true ++ l) ≡ falling n b ++ named (n - b) l
 unfolding named falling
-named-take n zero l = rw (sub-none n)
-named-take n (suc b) l = ap (λ x. n ∷ x) (named-take (n - 1) b l ∙ rw (sub-suc n b))
+named_take n zero l = rw (sub_none n)
+named_take n (suc b) l = ap (λ x. n ∷ x) (named_take (n - 1) b l ∙ rw (sub_suc n b))
 
-pair-named : (n a b : ℕ) (w : List ℕ) → named n (flags false (a ∷ (b ∷ w))) ≡ falling (n - a) b ++ named (n - a - b) (flags false w)
+pair_named : (n a b : ℕ) (w : List ℕ) → named n (flags false (a ∷ (b ∷ w))) ≡ falling (n - a) b ++ named (n - a - b) (flags false w)
 unfolding flags
-pair-named n a b w =
-    named-skip n a (replicate b true ++ flags false w) ∙ named-take (n - a) b (flags false w)
+pair_named n a b w =
+    named_skip n a (replicate b true ++ flags false w) ∙ named_take (n - a) b (flags false w)
 
-pub length-named : (n m : ℕ) (l : List Bool) → length (named n l) ≡ length (named m l)
+pub length_named : (n m : ℕ) (l : List Bool) → length (named n l) ≡ length (named m l)
 unfolding named
-length-named n m [] = refl
-length-named n m (true ∷ l) = ap suc (length-named (n - 1) (m - 1) l)
-length-named n m (false ∷ l) = length-named (n - 1) (m - 1) l
+length_named n m [] = refl
+length_named n m (true ∷ l) = ap suc (length_named (n - 1) (m - 1) l)
+length_named n m (false ∷ l) = length_named (n - 1) (m - 1) l
 
-pub falling-snoc : (n j : ℕ) → falling n (j + 1) ≡ falling n j ++ ((n - j) ∷ [])
+pub falling_snoc : (n j : ℕ) → falling n (j + 1) ≡ falling n j ++ ((n - j) ∷ [])
 unfolding falling
-falling-snoc n zero = rw (sub-none n)
-falling-snoc n (suc j) =
+falling_snoc n zero = rw (sub_none n)
+falling_snoc n (suc j) =
     let e : suc j + 1 ≡ suc (j + 1) = omega arith in
-    rw e (ap (λ x. n ∷ x) (falling-snoc (n - 1) j ∙ rw (sub-suc n j)))
+    rw e (ap (λ x. n ∷ x) (falling_snoc (n - 1) j ∙ rw (sub_suc n j)))
 
 -- ---- the pairs from place i on
 abbrev pub left : List ℕ → ℕ → ℕ → List ℕ
-left ps i n = named n (flags false (wholePairs (drop i ps)))
+left ps i n = named n (flags false (whole_pairs (drop i ps)))
 
 pub left_step : (ps : List ℕ) (i n : ℕ) → i + 1 < length ps →
     left ps i n ≡ falling (n - get_or ps i 0) (get_or ps (i + 1) 0) ++ left ps (i + 2) (n - get_or ps i 0 - get_or ps (i + 1) 0)
 left_step ps i n h =
-    ap (λ l. named n (flags false (wholePairs l))) (at_pair ps i h)
-    ∙ ap (λ l. named n (flags false l)) (whole-two (get_or ps i 0) (get_or ps (i + 1) 0) (drop (i + 2) ps))
-    ∙ pair-named n (get_or ps i 0) (get_or ps (i + 1) 0) (wholePairs (drop (i + 2) ps))
+    ap (λ l. named n (flags false (whole_pairs l))) (at_pair ps i h)
+    ∙ ap (λ l. named n (flags false l)) (whole_two (get_or ps i 0) (get_or ps (i + 1) 0) (drop (i + 2) ps))
+    ∙ pair_named n (get_or ps i 0) (get_or ps (i + 1) 0) (whole_pairs (drop (i + 2) ps))
 
-pub total-step : (ps : List ℕ) (i : ℕ) → i + 1 < length ps →
-    runSum (wholePairs (drop i ps)) ≡ get_or ps i 0 + (get_or ps (i + 1) 0 + runSum (wholePairs (drop (i + 2) ps)))
-unfolding runSum
-total-step ps i h =
-    ap (λ l. runSum (wholePairs l)) (at_pair ps i h)
-    ∙ ap runSum (whole-two (get_or ps i 0) (get_or ps (i + 1) 0) (drop (i + 2) ps))
+pub total_step : (ps : List ℕ) (i : ℕ) → i + 1 < length ps →
+    run_sum (whole_pairs (drop i ps)) ≡ get_or ps i 0 + (get_or ps (i + 1) 0 + run_sum (whole_pairs (drop (i + 2) ps)))
+unfolding run_sum
+total_step ps i h =
+    ap (λ l. run_sum (whole_pairs l)) (at_pair ps i h)
+    ∙ ap run_sum (whole_two (get_or ps i 0) (get_or ps (i + 1) 0) (drop (i + 2) ps))
 
-at-end : (ps : List ℕ) (i : ℕ) → length ps ≤ i + 1 → wholePairs (drop i ps) ≡ []
-at-end ps i h =
+at_end : (ps : List ℕ) (i : ℕ) → length ps ≤ i + 1 → whole_pairs (drop i ps) ≡ []
+at_end ps i h =
     let e : length (drop i ps) ≡ length ps - i = length-drop i ps in
-    whole-short (drop i ps) (omega arith)
+    whole_short (drop i ps) (omega arith)
 
 pub left_end : (ps : List ℕ) (i n : ℕ) → length ps ≤ i + 1 → left ps i n ≡ []
 unfolding flags named
-left_end ps i n h = ap (λ l. named n (flags false l)) (at-end ps i h)
+left_end ps i n h = ap (λ l. named n (flags false l)) (at_end ps i h)
 
-pub total-end : (ps : List ℕ) (i : ℕ) → length ps ≤ i + 1 → runSum (wholePairs (drop i ps)) ≡ 0
-unfolding runSum
-total-end ps i h = ap runSum (at-end ps i h)
+pub total_end : (ps : List ℕ) (i : ℕ) → length ps ≤ i + 1 → run_sum (whole_pairs (drop i ps)) ≡ 0
+unfolding run_sum
+total_end ps i h = ap run_sum (at_end ps i h)
 
-pub numbers-start : (through count : ℕ) (ps : List ℕ) →
-    ackNumbers through count ps ≡ (through ∷ falling (through - 1) count) ++ left ps 0 (through - count - 1)
-unfolding ackNumbers named flags
-numbers-start through count ps =
+pub numbers_start : (through count : ℕ) (ps : List ℕ) →
+    ack_numbers through count ps ≡ (through ∷ falling (through - 1) count) ++ left ps 0 (through - count - 1)
+unfolding ack_numbers named flags
+numbers_start through count ps =
     let e : through - 1 - count ≡ through - count - 1 = omega arith in
-    ap (λ x. through ∷ x) (named-take (through - 1) count (flags false (wholePairs ps)) ∙ rw e)
+    ap (λ x. through ∷ x) (named_take (through - 1) count (flags false (whole_pairs ps)) ∙ rw e)
 
-pub length-numbers : (through count : ℕ) (ps : List ℕ) →
-    length (ackNumbers through count ps) ≡ 1 + count + length (left ps 0 (through - count - 1))
-length-numbers through count ps =
-    ap length (numbers-start through count ps)
+pub length_numbers : (through count : ℕ) (ps : List ℕ) →
+    length (ack_numbers through count ps) ≡ 1 + count + length (left ps 0 (through - count - 1))
+length_numbers through count ps =
+    ap length (numbers_start through count ps)
     ∙ length-append (through ∷ falling (through - 1) count) (left ps 0 (through - count - 1))
-    ∙ omega (arith, length-falling (through - 1) count)
+    ∙ omega (arith, length_falling (through - 1) count)

@@ -6,31 +6,31 @@ use Prim.Native.Nat.{ℕ, ◌^◌, ◌≤◌, ◌<◌, max}
 use native.Mathlib.Omega.{arith}
 use lib.Dec.{eqb}
 use borrow.Author.Tests.{ne_eqb}
-use Rattle.acks.specs.History.{Packets, answerTo, highestOf, among, receive, noted}
-use Rattle.acks.specs.Tracking.{registerOf, registerAll}
+use Rattle.acks.specs.History.{Packets, answer_to, highest_of, among, receive, noted}
+use Rattle.acks.specs.Tracking.{register_of, register_all}
 use Rattle.acks.specs.declared.Tracker.{Tracker}
-use Rattle.acks.proofs.Tracks.{highest-receive}
+use Rattle.acks.proofs.Tracks.{highest_receive}
 
 -- ---- received: registered with answer 0, or 0 itself
-pub received-new : (l : List ℕ) (k n : ℕ) → 0 < n → among (receive l k) n ≡ (eqb n k || among l n)
+pub received_new : (l : List ℕ) (k n : ℕ) → 0 < n → among (receive l k) n ≡ (eqb n k || among l n)
 unfolding receive among
-received-new [] k n h = rw (ne_eqb n 0 (λ e. omega arith))
-received-new (x ∷ l) k n h = refl
+received_new [] k n h = rw (ne_eqb n 0 (λ e. omega arith))
+received_new (x ∷ l) k n h = refl
 
-pub highest-noted : (l : List ℕ) (n : ℕ) → (highestOf l ≤ highestOf (noted l n)) × (highestOf (noted l n) ≤ max (highestOf l) n)
+pub highest_noted : (l : List ℕ) (n : ℕ) → (highest_of l ≤ highest_of (noted l n)) × (highest_of (noted l n) ≤ max (highest_of l) n)
 unfolding noted
-highest-noted l n = go (eqb (answerTo (highestOf l) (among l) n) 0)
+highest_noted l n = go (eqb (answer_to (highest_of l) (among l) n) 0)
   where
-    go : (b : Bool) → (highestOf l ≤ highestOf (cond b (receive l n) l)) × (highestOf (cond b (receive l n) l) ≤ max (highestOf l) n)
-    go true = let e = highest-receive l n in (omega arith, omega arith)
+    go : (b : Bool) → (highest_of l ≤ highest_of (cond b (receive l n) l)) × (highest_of (cond b (receive l n) l) ≤ max (highest_of l) n)
+    go true = let e = highest_receive l n in (omega arith, omega arith)
     go false = (omega arith, omega arith)
 
 -- ---- one more call at the end of a history
-pub register-last : (t : Tracker) (calls : List ℕ) (n : ℕ) → registerAll t (calls ++ (n ∷ [])) ≡ (registerOf (registerAll t calls) n).tracker
-unfolding registerAll
-register-last t [] n = refl
-register-last t (k ∷ calls) n = register-last (registerOf t k).tracker calls n
+pub register_last : (t : Tracker) (calls : List ℕ) (n : ℕ) → register_all t (calls ++ (n ∷ [])) ≡ (register_of (register_all t calls) n).tracker
+unfolding register_all
+register_last t [] n = refl
+register_last t (k ∷ calls) n = register_last (register_of t k).tracker calls n
 
-pub packets-last : (calls : List ℕ) (n : ℕ) → Packets calls → n < 256 ^ 4 → Packets (calls ++ (n ∷ []))
-packets-last [] n p h = (h, tt)
-packets-last (k ∷ calls) n p h = (p.0, packets-last calls n p.1 h)
+pub packets_last : (calls : List ℕ) (n : ℕ) → Packets calls → n < 256 ^ 4 → Packets (calls ++ (n ∷ []))
+packets_last [] n p h = (h, tt)
+packets_last (k ∷ calls) n p h = (p.0, packets_last calls n p.1 h)

@@ -6,92 +6,92 @@ use Prim.Native.Nat.{ℕ, suc, ◌+◌, ◌-◌, ◌≤◌, ◌<◌, ◌%◌, mi
 use native.Mathlib.Omega.{arith}
 use lib.ListN.{length, drop, set, replicate, length-append}
 use lib.Seq.{set-append_seam}
-use Rattle.acks.specs.Runs.{leading, laterRuns}
-use Rattle.acks.specs.Reporting.{view, padded, reportOf, reportOfRuns, silent}
+use Rattle.acks.specs.Runs.{leading, later_runs}
+use Rattle.acks.specs.Reporting.{view, padded, report_of, report_of_runs, silent}
 use Rattle.acks.specs.Tracking.{mark}
-use Rattle.acks.proofs.RunLengths.{runs-leading, rest-true, rest-false, leading-drop, leading_le, leading-other}
-use Rattle.acks.proofs.View.{length-view, view-drop}
+use Rattle.acks.proofs.RunLengths.{runs_leading, rest_true, rest_false, leading_drop, leading_le, leading_other}
+use Rattle.acks.proofs.View.{length_view, view_drop}
 
-pub leading-view-le : (b : Bool) (m : List ℕ) (n k : ℕ) → leading b (view m n k) ≤ k
-leading-view-le b m n k = omega (arith, leading_le b (view m n k), length-view m n k)
+pub leading_view_le : (b : Bool) (m : List ℕ) (n k : ℕ) → leading b (view m n k) ≤ k
+leading_view_le b m n k = omega (arith, leading_le b (view m n k), length_view m n k)
 
-sub-sub : (a b c : ℕ) → a - b - c ≡ a - (b + c)
-sub-sub a b c = omega arith
+sub_sub : (a b c : ℕ) → a - b - c ≡ a - (b + c)
+sub_sub a b c = omega arith
 
-sub-left : (a b c : ℕ) → b + c ≤ a → c ≤ a - b
-sub-left a b c h = omega arith
+sub_left : (a b c : ℕ) → b + c ≤ a → c ≤ a - b
+sub_left a b c h = omega arith
 
-left-pos : (a b : ℕ) → b < a → 0 < a - b
-left-pos a b h = omega arith
+left_pos : (a b : ℕ) → b < a → 0 < a - b
+left_pos a b h = omega arith
 
 -- after j of the k numbers below top
 abbrev pub from : List ℕ → ℕ → ℕ → ℕ → List Bool
 from m top k j = view m (top - j) (k - j)
 
-from-drop : (m : List ℕ) (top k j i : ℕ) → drop i (from m top k j) ≡ from m top k (j + i)
-from-drop m top k j i = view-drop m i (top - j) (k - j) ∙ rw (sub-sub top j i, sub-sub k j i)
+from_drop : (m : List ℕ) (top k j i : ℕ) → drop i (from m top k j) ≡ from m top k (j + i)
+from_drop m top k j i = view_drop m i (top - j) (k - j) ∙ rw (sub_sub top j i, sub_sub k j i)
 
 pub record Turn (m : List ℕ) (top k used nack ack : ℕ) : Type 0 where
   pub some : 0 < nack
   pub within : used + nack + ack ≤ k
   pub more : used + nack < k → 0 < ack
-  pub shows : laterRuns true (from m top k used) ≡ nack ∷ (ack ∷ laterRuns true (from m top k (used + nack + ack)))
+  pub shows : later_runs true (from m top k used) ≡ nack ∷ (ack ∷ later_runs true (from m top k (used + nack + ack)))
   pub next : leading true (from m top k (used + nack + ack)) ≡ 0
 
 module _ (m : List ℕ) (top k used nack ack : ℕ) (h : used < k) (e : leading true (from m top k used) ≡ 0)
     (n : nack ≡ leading false (from m top k used)) (a : ack ≡ leading true (from m top k (used + nack))) where
   long : (j : ℕ) → j < k → 0 < length (from m top k j)
-  long j l = rw (length-view m (top - j) (k - j)) (left-pos k j l)
+  long j l = rw (length_view m (top - j) (k - j)) (left_pos k j l)
 
-  nack-le : nack ≤ k - used
-  nack-le = rw n (leading-view-le false m (top - used) (k - used))
+  nack_le : nack ≤ k - used
+  nack_le = rw n (leading_view_le false m (top - used) (k - used))
 
-  ack-le : ack ≤ k - (used + nack)
-  ack-le = rw a (leading-view-le true m (top - (used + nack)) (k - (used + nack)))
+  ack_le : ack ≤ k - (used + nack)
+  ack_le = rw a (leading_view_le true m (top - (used + nack)) (k - (used + nack)))
 
-  after-nack : drop (leading false (from m top k used)) (from m top k used) ≡ from m top k (used + nack)
-  after-nack = rw (← n) (from-drop m top k used nack)
+  after_nack : drop (leading false (from m top k used)) (from m top k used) ≡ from m top k (used + nack)
+  after_nack = rw (← n) (from_drop m top k used nack)
 
-  after-ack : drop (leading true (from m top k (used + nack))) (from m top k (used + nack)) ≡ from m top k (used + nack + ack)
-  after-ack = rw (← a) (from-drop m top k (used + nack) ack)
+  after_ack : drop (leading true (from m top k (used + nack))) (from m top k (used + nack)) ≡ from m top k (used + nack + ack)
+  after_ack = rw (← a) (from_drop m top k (used + nack) ack)
 
   pub turn : Turn m top k used nack ack
   turn =
       record {
-        some = rw n (leading-other true (from m top k used) e (long used h));
-        within = omega (arith, nack-le, ack-le);
+        some = rw n (leading_other true (from m top k used) e (long used h));
+        within = omega (arith, nack_le, ack_le);
         more =
             λ l. rw a
-            (leading-other false (from m top k (used + nack))
-            (rw after-nack at (leading-drop false (from m top k used)))
+            (leading_other false (from m top k (used + nack))
+            (rw after_nack at (leading_drop false (from m top k used)))
             (long (used + nack) l));
         shows =
-            rest-true (from m top k used) (long used h)
-            ∙ rw (after-nack, ← n)
+            rest_true (from m top k used) (long used h)
+            ∙ rw (after_nack, ← n)
             (ap (λ l. nack ∷ l)
-            (rest-false (from m top k (used + nack)) ∙ rw (after-ack, ← a)));
-        next = rw after-ack at (leading-drop true (from m top k (used + nack)));
+            (rest_false (from m top k (used + nack)) ∙ rw (after_ack, ← a)));
+        next = rw after_ack at (leading_drop true (from m top k (used + nack)));
       }
 
 -- bytes at the front of 254
 more_room : (n : ℕ) → n < 254 → 254 - n ≡ suc (254 - (n + 1))
 more_room n h = omega arith
 
-filled-one : (w : List ℕ) (v : ℕ) → length w < 254 → set (padded w) (length w) v ≡ padded (w ++ (v ∷ []))
+filled_one : (w : List ℕ) (v : ℕ) → length w < 254 → set (padded w) (length w) v ≡ padded (w ++ (v ∷ []))
 unfolding padded
-filled-one w v h =
+filled_one w v h =
     rw (more_room (length w) h)
     (set-append_seam w 0 (replicate (254 - (length w + 1)) 0) v
     ∙ rw (length-append w (v ∷ [])) (sym (append_assoc w (v ∷ []) (replicate (254 - (length w + 1)) 0))))
 
-pub filled-two : (w : List ℕ) (a b : ℕ) → length w + 1 < 254 → set (set (padded w) (length w) a) (length w + 1) b ≡ padded (w ++ (a ∷ (b ∷ [])))
-filled-two w a b h =
+pub filled_two : (w : List ℕ) (a b : ℕ) → length w + 1 < 254 → set (set (padded w) (length w) a) (length w + 1) b ≡ padded (w ++ (a ∷ (b ∷ [])))
+filled_two w a b h =
     let l : length (w ++ (a ∷ [])) ≡ length w + 1 = length-append w (a ∷ []) in
     let q : length w < 254 = omega arith in
     let p : length (w ++ (a ∷ [])) < 254 = omega arith in
-    ap (λ x. set x (length w + 1) b) (filled-one w a q)
+    ap (λ x. set x (length w + 1) b) (filled_one w a q)
     ∙ ap (λ i. set (padded (w ++ (a ∷ []))) i b) (sym l)
-    ∙ filled-one (w ++ (a ∷ [])) b p
+    ∙ filled_one (w ++ (a ∷ [])) b p
     ∙ ap padded (append_assoc w (a ∷ []) (b ∷ []))
 
 -- what the loop has written, and what is left
@@ -100,7 +100,7 @@ pub record Sofar (m : List ℕ) (top k : ℕ) (bytes : List ℕ) (len used : ℕ
   pub below : used ≤ k
   pub written : bytes ≡ padded w
   pub counted : len ≡ length w
-  pub whole : laterRuns true (view m top k) ≡ w ++ laterRuns true (from m top k used)
+  pub whole : later_runs true (view m top k) ≡ w ++ later_runs true (from m top k used)
   pub missing : leading true (from m top k used) ≡ 0
   pub even : len % 2 ≡ 0
   pub short : used < k → len ≤ used
@@ -118,10 +118,10 @@ module _ (m : List ℕ) (top k : ℕ) (bytes : List ℕ) (len used nack ack : �
         below = t.within;
         written =
             rw (s.written, s.counted)
-            (filled-two s.w nack ack (let q : length s.w + 1 < 254 = omega (arith, room, s.counted) in q));
+            (filled_two s.w nack ack (let q : length s.w + 1 < 254 = omega (arith, room, s.counted) in q));
         counted = omega (arith, s.counted, length-append s.w (nack ∷ (ack ∷ [])));
         whole =
-            s.whole ∙ ap (λ l. s.w ++ l) t.shows ∙ sym (append_assoc s.w (nack ∷ (ack ∷ [])) (laterRuns true (from m top k (used + nack + ack))));
+            s.whole ∙ ap (λ l. s.w ++ l) t.shows ∙ sym (append_assoc s.w (nack ∷ (ack ∷ [])) (later_runs true (from m top k (used + nack + ack))));
         missing = t.next;
         even = omega (arith, s.even);
         short = λ l. (let q : used + nack < k = omega arith in omega (arith, t.more q, t.some, s.short h));
@@ -129,17 +129,17 @@ module _ (m : List ℕ) (top k : ℕ) (bytes : List ℕ) (len used nack ack : �
       }
 
 -- what stands below the count of received numbers starts with a missing one
-pub after-count : (m : List ℕ) (top k c : ℕ) → c ≡ leading true (view m top k) → leading true (view m (top - c) (k - c)) ≡ 0
-after-count m top k c e = rw (← view-drop m c top k, e) (leading-drop true (view m top k))
+pub after_count : (m : List ℕ) (top k c : ℕ) → c ≡ leading true (view m top k) → leading true (view m (top - c) (k - c)) ≡ 0
+after_count m top k c e = rw (← view_drop m c top k, e) (leading_drop true (view m top k))
 
 -- a report by its parts
 pub reported : (m : List ℕ) (h k c : ℕ) → mark m h ≡ true → k ≡ min h 254 → c ≡ leading true (view m h k) →
-    reportOf h (mark m) ≡ reportOfRuns h (c ∷ laterRuns true (view m (h - c) (k - c)))
-unfolding reportOf view
+    report_of h (mark m) ≡ report_of_runs h (c ∷ later_runs true (view m (h - c) (k - c)))
+unfolding report_of view
 reported m h k c e q l =
     rw (e, ← q)
-    (ap (reportOfRuns h) (runs-leading true (view m h k) ∙ rw (← l) (ap (λ x. c ∷ laterRuns true x) (view-drop m c h k))))
+    (ap (report_of_runs h) (runs_leading true (view m h k) ∙ rw (← l) (ap (λ x. c ∷ later_runs true x) (view_drop m c h k))))
 
-pub quiet : (m : List ℕ) (h : ℕ) → mark m h ≡ false → reportOf h (mark m) ≡ silent
-unfolding reportOf
+pub quiet : (m : List ℕ) (h : ℕ) → mark m h ≡ false → report_of h (mark m) ≡ silent
+unfolding report_of
 quiet m h e = rw e

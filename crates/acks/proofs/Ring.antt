@@ -9,7 +9,7 @@ use lib.Dec.{ltb, eqb}
 use lib.ListN.{set, length, length-set}
 use lib.Seq.{get_or-set_same, get_or-set_other}
 use borrow.Author.Tests.{ltb-true, ltb-false}
-use Rattle.acks.specs.Tracking.{mark, clearUp}
+use Rattle.acks.specs.Tracking.{mark, clear_up}
 
 pub split : (a b : ℕ) → (a < b) ⊎ (b ≤ a)
 split a b = go (ltb a b) refl
@@ -18,47 +18,47 @@ split a b = go (ltb a b) refl
     go true e = inl (ltb-true a b e)
     go false e = inr (ltb-false a b e)
 
-pub length-clear : (m : List ℕ) (a d : ℕ) → length (clearUp m a d) ≡ length m
-unfolding clearUp
-length-clear m a zero = refl
-length-clear m a (suc d) = length-set (clearUp m a d) ((a + d) % 255) 0 ∙ length-clear m a d
+pub length_clear : (m : List ℕ) (a d : ℕ) → length (clear_up m a d) ≡ length m
+unfolding clear_up
+length_clear m a zero = refl
+length_clear m a (suc d) = length-set (clear_up m a d) ((a + d) % 255) 0 ∙ length_clear m a d
 
-pub mod-in : (x n : ℕ) → n ≡ 255 → x % 255 < n
-mod-in x n e = omega arith
+pub mod_in : (x n : ℕ) → n ≡ 255 → x % 255 < n
+mod_in x n e = omega arith
 
 -- a mark that was just set
-pub mark-same : (m : List ℕ) (x v : ℕ) → length m ≡ 255 → mark (set m (x % 255) v) x ≡ not (eqb v 0)
+pub mark_same : (m : List ℕ) (x v : ℕ) → length m ≡ 255 → mark (set m (x % 255) v) x ≡ not (eqb v 0)
 unfolding mark
-mark-same m x v e = ap (λ y. not (eqb y 0)) (get_or-set_same m (x % 255) v 0 (mod-in x (length m) e))
+mark_same m x v e = ap (λ y. not (eqb y 0)) (get_or-set_same m (x % 255) v 0 (mod_in x (length m) e))
 
 -- and one that was not touched: numbers less than 255 apart have marks of their own
 apart : (x y : ℕ) → x < y → y < x + 255 → (x % 255 ≡ y % 255) → ⊥
 apart x y h g e = omega arith
 
-pub mark-above : (m : List ℕ) (x y v : ℕ) → x < y → y < x + 255 → mark (set m (x % 255) v) y ≡ mark m y
+pub mark_above : (m : List ℕ) (x y v : ℕ) → x < y → y < x + 255 → mark (set m (x % 255) v) y ≡ mark m y
 unfolding mark
-mark-above m x y v h g = ap (λ z. not (eqb z 0)) (get_or-set_other m (x % 255) (y % 255) v 0 (λ e. apart x y h g (sym e)))
+mark_above m x y v h g = ap (λ z. not (eqb z 0)) (get_or-set_other m (x % 255) (y % 255) v 0 (λ e. apart x y h g (sym e)))
 
-pub mark-below : (m : List ℕ) (x y v : ℕ) → y < x → x < y + 255 → mark (set m (x % 255) v) y ≡ mark m y
+pub mark_below : (m : List ℕ) (x y v : ℕ) → y < x → x < y + 255 → mark (set m (x % 255) v) y ≡ mark m y
 unfolding mark
-mark-below m x y v h g = ap (λ z. not (eqb z 0)) (get_or-set_other m (x % 255) (y % 255) v 0 (λ e. apart y x h g e))
+mark_below m x y v h g = ap (λ z. not (eqb z 0)) (get_or-set_other m (x % 255) (y % 255) v 0 (λ e. apart y x h g e))
 
 -- clearing d numbers from a upward leaves the marks of the numbers below a that are less than 255 below the last
-pub clear-below : (m : List ℕ) (a d k : ℕ) → k < a → a + d ≤ k + 255 → mark (clearUp m a d) k ≡ mark m k
-unfolding clearUp
-clear-below m a zero k h g = refl
-clear-below m a (suc d) k h g =
-    mark-below (clearUp m a d) (a + d) k 0 (omega arith) (omega arith) ∙ clear-below m a d k h (omega arith)
+pub clear_below : (m : List ℕ) (a d k : ℕ) → k < a → a + d ≤ k + 255 → mark (clear_up m a d) k ≡ mark m k
+unfolding clear_up
+clear_below m a zero k h g = refl
+clear_below m a (suc d) k h g =
+    mark_below (clear_up m a d) (a + d) k 0 (omega arith) (omega arith) ∙ clear_below m a d k h (omega arith)
 
 -- and unsets theirs
-pub clear_in : (m : List ℕ) (a d k : ℕ) → length m ≡ 255 → d ≤ 255 → a ≤ k → k < a + d → mark (clearUp m a d) k ≡ false
-unfolding clearUp
+pub clear_in : (m : List ℕ) (a d k : ℕ) → length m ≡ 255 → d ≤ 255 → a ≤ k → k < a + d → mark (clear_up m a d) k ≡ false
+unfolding clear_up
 clear_in m a zero k e g h l = absurd (omega arith)
 clear_in m a (suc d) k e g h l =
     ⊎_elim
-    (λ lt. mark-below (clearUp m a d) (a + d) k 0 lt (omega arith) ∙ clear_in m a d k e (omega arith) h lt)
+    (λ lt. mark_below (clear_up m a d) (a + d) k 0 lt (omega arith) ∙ clear_in m a d k e (omega arith) h lt)
     (λ le. go (omega arith))
     (split k (a + d))
   where
-    go : k ≡ a + d → mark (set (clearUp m a d) ((a + d) % 255) 0) k ≡ false
-    go q = rw q (mark-same (clearUp m a d) (a + d) 0 (length-clear m a d ∙ e))
+    go : k ≡ a + d → mark (set (clear_up m a d) ((a + d) % 255) 0) k ≡ false
+    go q = rw q (mark_same (clear_up m a d) (a + d) 0 (length_clear m a d ∙ e))

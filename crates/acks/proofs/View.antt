@@ -12,61 +12,61 @@ use Rattle.acks.specs.Window.{falling}
 use Rattle.acks.specs.Runs.{leading}
 use Rattle.acks.specs.Tracking.{mark}
 use Rattle.acks.specs.Reporting.{view}
-use Rattle.acks.proofs.Falling.{length-falling, drop-falling, falling-append}
-use Rattle.acks.proofs.RunLengths.{drop-map, leading-same, leading-not, leading_le, leading-append-stop, leading-append-on}
+use Rattle.acks.proofs.Falling.{length_falling, drop_falling, falling_append}
+use Rattle.acks.proofs.RunLengths.{drop_map, leading_same, leading_not, leading_le, leading_append_stop, leading_append_on}
 
-sub-swap : (a b : ℕ) → a - 1 - b ≡ a - b - 1
-sub-swap a b = omega arith
+sub_swap : (a b : ℕ) → a - 1 - b ≡ a - b - 1
+sub_swap a b = omega arith
 
 sub_more : (a b : ℕ) → a - (b + 1) ≡ a - b - 1
 sub_more a b = omega arith
 
-sub-pos : (a b : ℕ) → b < a → 0 < a - b
-sub-pos a b h = omega arith
+sub_pos : (a b : ℕ) → b < a → 0 < a - b
+sub_pos a b h = omega arith
 
 module _ (m : List ℕ) where
-  pub length-view : (n k : ℕ) → length (view m n k) ≡ k
+  pub length_view : (n k : ℕ) → length (view m n k) ≡ k
   unfolding view
-  length-view n k = length-map (falling (n - 1) k) (mark m) ∙ length-falling (n - 1) k
+  length_view n k = length-map (falling (n - 1) k) (mark m) ∙ length_falling (n - 1) k
 
-  pub view-drop : (j n k : ℕ) → drop j (view m n k) ≡ view m (n - j) (k - j)
+  pub view_drop : (j n k : ℕ) → drop j (view m n k) ≡ view m (n - j) (k - j)
   unfolding view
-  view-drop j n k =
+  view_drop j n k =
       let e : n - 1 - j ≡ n - j - 1 = omega arith in
-      drop-map (mark m) j (falling (n - 1) k) ∙ ap (map (mark m)) (drop-falling j (n - 1) k) ∙ rw e
+      drop_map (mark m) j (falling (n - 1) k) ∙ ap (map (mark m)) (drop_falling j (n - 1) k) ∙ rw e
 
-  pub view-none : (n : ℕ) → view m n 0 ≡ []
+  pub view_none : (n : ℕ) → view m n 0 ≡ []
   unfolding view falling
-  view-none n = refl
+  view_none n = refl
 
-  view-suc : (n k : ℕ) → view m n (suc k) ≡ mark m (n - 1) ∷ view m (n - 1) k
+  view_suc : (n k : ℕ) → view m n (suc k) ≡ mark m (n - 1) ∷ view m (n - 1) k
   unfolding view falling
-  view-suc n k = refl
+  view_suc n k = refl
 
-  pub view-cons : (n k : ℕ) → 0 < k → view m n k ≡ mark m (n - 1) ∷ view m (n - 1) (k - 1)
-  view-cons n zero h = absurd (omega arith)
-  view-cons n (suc k) h =
+  pub view_cons : (n k : ℕ) → 0 < k → view m n k ≡ mark m (n - 1) ∷ view m (n - 1) (k - 1)
+  view_cons n zero h = absurd (omega arith)
+  view_cons n (suc k) h =
       let e : suc k - 1 ≡ k = omega arith in
-      rw e (view-suc n k)
+      rw e (view_suc n k)
 
-  pub view-append : (n a b : ℕ) → view m n (a + b) ≡ view m n a ++ view m (n - a) b
+  pub view_append : (n a b : ℕ) → view m n (a + b) ≡ view m n a ++ view m (n - a) b
   unfolding view
-  view-append n a b =
-      ap (map (mark m)) (falling-append (n - 1) a b)
+  view_append n a b =
+      ap (map (mark m)) (falling_append (n - 1) a b)
       ∙ map-append (mark m) (falling (n - 1) a) (falling (n - 1 - a) b)
-      ∙ rw (sub-swap n a)
+      ∙ rw (sub_swap n a)
 
   -- a mark seen on: it is as wanted, or the run ends there
   module _ (top k j : ℕ) (want : Bool) (h : j < k) where
     at_j : view m (top - j) (k - j) ≡ mark m (top - 1 - j) ∷ view m (top - (j + 1)) (k - (j + 1))
     at_j =
-        rw (sub-swap top j, sub_more top j, sub_more k j) (view-cons (top - j) (k - j) (sub-pos k j h))
+        rw (sub_swap top j, sub_more top j, sub_more k j) (view_cons (top - j) (k - j) (sub_pos k j h))
 
     pub run_more : mark m (top - 1 - j) ≡ want → leading want (view m (top - j) (k - j)) ≡ suc (leading want (view m (top - (j + 1)) (k - (j + 1))))
-    run_more e = ap (leading want) at_j ∙ rw e (leading-same want (view m (top - (j + 1)) (k - (j + 1))))
+    run_more e = ap (leading want) at_j ∙ rw e (leading_same want (view m (top - (j + 1)) (k - (j + 1))))
 
-    pub run-stop : (mark m (top - 1 - j) ≡ want → ⊥) → leading want (view m (top - j) (k - j)) ≡ 0
-    run-stop e = ap (leading want) at_j ∙ leading-not want (mark m (top - 1 - j)) (view m (top - (j + 1)) (k - (j + 1))) e
+    pub run_stop : (mark m (top - 1 - j) ≡ want → ⊥) → leading want (view m (top - j) (k - j)) ≡ 0
+    run_stop e = ap (leading want) at_j ∙ leading_not want (mark m (top - 1 - j)) (view m (top - (j + 1)) (k - (j + 1))) e
 
   -- numbers that are 255 apart share their marks
   same_place : (n e q : ℕ) → n ≡ e + 255 * q → 0 < e → mark m (n - 1) ≡ mark m (e - 1)
@@ -75,46 +75,46 @@ module _ (m : List ℕ) where
       let z : (n - 1) % 255 ≡ (e - 1) % 255 = omega arith in
       ap (λ i. not (eqb (get_or m i 0) 0)) z
 
-  pub view-ring : (q k n e : ℕ) → n ≡ e + 255 * q → k ≤ e → view m n k ≡ view m e k
-  view-ring q zero n e h g = view-none n ∙ sym (view-none e)
-  view-ring q (suc k) n e h g =
-      view-suc n k
+  pub view_ring : (q k n e : ℕ) → n ≡ e + 255 * q → k ≤ e → view m n k ≡ view m e k
+  view_ring q zero n e h g = view_none n ∙ sym (view_none e)
+  view_ring q (suc k) n e h g =
+      view_suc n k
       ∙ ap (λ b. b ∷ view m (n - 1) k) (same_place n e q h (omega arith))
-      ∙ ap (λ l. mark m (e - 1) ∷ l) (view-ring q k (n - 1) (e - 1) (omega arith) (omega arith))
-      ∙ sym (view-suc e k)
+      ∙ ap (λ l. mark m (e - 1) ∷ l) (view_ring q k (n - 1) (e - 1) (omega arith) (omega arith))
+      ∙ sym (view_suc e k)
 
   -- the k numbers below top, k at most 255, are two straight parts of the ring: a marks below place e, then those below 255
   module _ (top k e a : ℕ) (at : e ≡ top % 255) (least : a ≡ min k e) (most : k ≤ top) (small : k ≤ 255) where
     front : view m top a ≡ view m e a
-    front = view-ring (top / 255) a top e (omega arith) (omega arith)
+    front = view_ring (top / 255) a top e (omega arith) (omega arith)
 
     back : view m (top - a) (k - a) ≡ view m 255 (k - a)
     back =
         ⊎_elim
-        (λ z. rw z (view-none (top - a) ∙ sym (view-none 255)))
-        (λ p. view-ring (top / 255 - 1) (k - a) (top - a) 255 (omega arith) (omega arith))
+        (λ z. rw z (view_none (top - a) ∙ sym (view_none 255)))
+        (λ p. view_ring (top / 255 - 1) (k - a) (top - a) 255 (omega arith) (omega arith))
         (eq-zero-or-pos (k - a))
 
     split : view m top k ≡ view m e a ++ view m 255 (k - a)
     split =
         let s : k ≡ a + (k - a) = omega arith in
-        ap (view m top) s ∙ view-append top a (k - a) ∙ rw (front, back)
+        ap (view m top) s ∙ view_append top a (k - a) ∙ rw (front, back)
 
     -- the run ends in the first part
-    pub ends-in-front : (want : Bool) (r : ℕ) → r ≡ leading want (view m e a) → r < a → r ≡ leading want (view m top k)
-    ends-in-front want r h g =
+    pub ends_in_front : (want : Bool) (r : ℕ) → r ≡ leading want (view m e a) → r < a → r ≡ leading want (view m top k)
+    ends_in_front want r h g =
         h
         ∙ sym
         (ap (leading want) split
-        ∙ leading-append-stop want (view m e a) (view m 255 (k - a)) (omega (arith, length-view e a)))
+        ∙ leading_append_stop want (view m e a) (view m 255 (k - a)) (omega (arith, length_view e a)))
 
     -- or it goes on into the second
     pub goes_on : (want : Bool) (r s : ℕ) → r ≡ leading want (view m e a) → a ≤ r → s ≡ leading want (view m 255 (k - a)) →
         a + s ≡ leading want (view m top k)
     goes_on want r s h g w =
-        let z : leading want (view m e a) ≡ length (view m e a) = omega (arith, length-view e a, leading_le want (view m e a)) in
+        let z : leading want (view m e a) ≡ length (view m e a) = omega (arith, length_view e a, leading_le want (view m e a)) in
         rw w
         (sym
         (ap (leading want) split
-        ∙ leading-append-on want (view m e a) (view m 255 (k - a)) z
-        ∙ ap (λ n. n + leading want (view m 255 (k - a))) (length-view e a)))
+        ∙ leading_append_on want (view m e a) (view m 255 (k - a)) z
+        ∙ ap (λ n. n + leading want (view m 255 (k - a))) (length_view e a)))

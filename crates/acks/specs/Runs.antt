@@ -26,11 +26,11 @@ leading false (false ∷ l) = suc (leading false l)
 leading false (true ∷ l) = 0
 
 -- the runs that follow a run of b's
-unfoldable pub laterRuns : Bool → List Bool → List ℕ
-laterRuns true [] = []
-laterRuns false [] = 0 ∷ []
-laterRuns true (x ∷ l) = runs false (x ∷ l)
-laterRuns false (x ∷ l) = runs true (x ∷ l)
+unfoldable pub later_runs : Bool → List Bool → List ℕ
+later_runs true [] = []
+later_runs false [] = 0 ∷ []
+later_runs true (x ∷ l) = runs false (x ∷ l)
+later_runs false (x ∷ l) = runs true (x ∷ l)
 
 -- what run lengths stand for: so many b's, then so many of the other, and so on
 unfoldable pub flags : Bool → List ℕ → List Bool
@@ -44,10 +44,10 @@ named n (true ∷ l) = n ∷ named (n - 1) l
 named n (false ∷ l) = named (n - 1) l
 
 -- whole pairs: an odd last number is dropped
-unfoldable pub wholePairs : List ℕ → List ℕ
-wholePairs l = take (length l - length l % 2) l
+unfoldable pub whole_pairs : List ℕ → List ℕ
+whole_pairs l = take (length l - length l % 2) l
 
 -- the sum of some numbers
-unfoldable pub runSum : List ℕ → ℕ
-runSum [] = 0
-runSum (n ∷ l) = n + runSum l
+unfoldable pub run_sum : List ℕ → ℕ
+run_sum [] = 0
+run_sum (n ∷ l) = n + run_sum l

@@ -1,7 +1,7 @@
 -- The tracker's record, and what registering makes of it.
 use Rattle.std.specs.Prelude.{Bool, not, cond, ◌&&◌, List, [], ◌∷◌, ℕ, zero, suc, ◌+◌, ◌-◌, ◌%◌, max, eqb, replicate, get_or, set}
-use Rattle.acks.specs.Window.{inWindow}
-use Rattle.acks.specs.History.{answerTo}
+use Rattle.acks.specs.Window.{in_window}
+use Rattle.acks.specs.History.{answer_to}
 use Rattle.acks.specs.declared.Tracker.{Tracker}
 use Rattle.acks.specs.declared.Registered.{Registered}
 
@@ -14,31 +14,31 @@ unfoldable pub mark : List ℕ → ℕ → Bool
 mark m n = not (eqb (get_or m (n % 255) 0) 0)
 
 -- a duplicate: in the window and marked; that this is in the window and received is promises `Duplicates`
-unfoldable pub isDuplicate : ℕ → List ℕ → ℕ → Bool
-isDuplicate top m n = inWindow top n && mark m n
+unfoldable pub is_duplicate : ℕ → List ℕ → ℕ → Bool
+is_duplicate top m n = in_window top n && mark m n
 
 -- the marks with those of d numbers, from a upward, unset
-unfoldable pub clearUp : List ℕ → ℕ → ℕ → List ℕ
-clearUp m a zero = m
-clearUp m a (suc d) = set (clearUp m a d) ((a + d) % 255) 0
+unfoldable pub clear_up : List ℕ → ℕ → ℕ → List ℕ
+clear_up m a zero = m
+clear_up m a (suc d) = set (clear_up m a d) ((a + d) % 255) 0
 
 -- the marks once n was accepted: set for top (which is 0 before any number), unset between top and n, set for n
-unfoldable pub marksAfter : List ℕ → ℕ → ℕ → List ℕ
-marksAfter m top n = set (clearUp (set m (top % 255) 1) (top + 1) (n - top - 1)) (n % 255) 1
+unfoldable pub marks_after : List ℕ → ℕ → ℕ → List ℕ
+marks_after m top n = set (clear_up (set m (top % 255) 1) (top + 1) (n - top - 1)) (n % 255) 1
 
 -- the tracker once n was accepted
-unfoldable pub acceptOf : Tracker → ℕ → Tracker
-acceptOf t n = record { highest = max t.highest n; marks = marksAfter t.marks t.highest n }
+unfoldable pub accept_of : Tracker → ℕ → Tracker
+accept_of t n = record { highest = max t.highest n; marks = marks_after t.marks t.highest n }
 
 -- what a registration answers
-unfoldable pub registerAnswer : Tracker → ℕ → ℕ
-registerAnswer t n = answerTo t.highest (isDuplicate t.highest t.marks) n
+unfoldable pub register_answer : Tracker → ℕ → ℕ
+register_answer t n = answer_to t.highest (is_duplicate t.highest t.marks) n
 
 -- a registration: the answer, and the tracker, unchanged by a refusal
-unfoldable pub registerOf : Tracker → ℕ → Registered
-registerOf t n = record { answer = registerAnswer t n; tracker = cond (eqb (registerAnswer t n) 0) (acceptOf t n) t }
+unfoldable pub register_of : Tracker → ℕ → Registered
+register_of t n = record { answer = register_answer t n; tracker = cond (eqb (register_answer t n) 0) (accept_of t n) t }
 
 -- a tracker after calls of register, the first call first
-unfoldable pub registerAll : Tracker → List ℕ → Tracker
-registerAll t [] = t
-registerAll t (n ∷ calls) = registerAll (registerOf t n).tracker calls
+unfoldable pub register_all : Tracker → List ℕ → Tracker
+register_all t [] = t
+register_all t (n ∷ calls) = register_all (register_of t n).tracker calls

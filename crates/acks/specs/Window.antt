@@ -11,8 +11,8 @@ unfoldable pub window : ℕ → List ℕ
 window top = falling top (suc (min top 254))
 
 -- whether a number is one of them
-unfoldable pub inWindow : ℕ → ℕ → Bool
-inWindow top n = leb n top && ltb top (n + 255)
+unfoldable pub in_window : ℕ → ℕ → Bool
+in_window top n = leb n top && ltb top (n + 255)
 
 -- the numbers of a list that a test takes
 unfoldable pub keep : (ℕ → Bool) → List ℕ → List ℕ

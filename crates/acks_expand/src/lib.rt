@@ -2,8 +2,8 @@
 ghost use Rattle.std.specs.Prelude.{◌≡◌, true, false, not, ◌+◌, ◌-◌, ◌≤◌, ◌<◌, length, get_or};
 ghost use Rattle.wire.specs.Parts.{part, splice};
 ghost use Rattle.acks.specs.Window.{falling};
-ghost use Rattle.acks.specs.Runs.{named, flags, wholePairs, runSum};
-ghost use Rattle.acks.specs.Expanding.{ackNumbers, goesBelow, expandOf, listAfter};
+ghost use Rattle.acks.specs.Runs.{named, flags, whole_pairs, run_sum};
+ghost use Rattle.acks.specs.Expanding.{ack_numbers, goes_below, expand_of, list_after};
 
 use acks::Expanded;
 use blocks::Part;
@@ -27,7 +27,7 @@ pub fn byte(s: &[u8], i: usize) -> u32
 
 // What an acknowledgement comes to, without its numbers: 44 can be given where there is no list.
 pub fn measure(through: u32, count: u8, pairs: &[u8]) -> Measured
-    ensures { (result.within ≡ not (goesBelow through count pairs.now)) × (result.within ≡ true → (result.names ≡ length (ackNumbers through count pairs.now)) × (result.lowest + (count + runSum (wholePairs pairs.now)) ≡ through)) }
+    ensures { (result.within ≡ not (goes_below through count pairs.now)) × (result.within ≡ true → (result.names ≡ length (ack_numbers through count pairs.now)) × (result.lowest + (count + run_sum (whole_pairs pairs.now)) ≡ through)) }
 {
     let limit = through as u64;
     let mut sum = count as u64;
@@ -76,8 +76,8 @@ fn fall(list: &mut [u32], at: usize, above: u32, k: u32)
 
 // What the pairs name below top, at a place of the list.
 fn fill_pairs(pairs: &[u8], list: &mut [u32], place: usize, top: u32)
-    requires { (runSum (wholePairs pairs.now) ≤ top) × (place + length (named (top - 1) (flags false (wholePairs pairs.now))) ≤ length list.old) }
-    ensures { list.new ≡ splice list.old place (named (top - 1) (flags false (wholePairs pairs.now))) }
+    requires { (run_sum (whole_pairs pairs.now) ≤ top) × (place + length (named (top - 1) (flags false (whole_pairs pairs.now))) ≤ length list.old) }
+    ensures { list.new ≡ splice list.old place (named (top - 1) (flags false (whole_pairs pairs.now))) }
 {
     let mut at = place;
     let mut above = top;
@@ -94,8 +94,8 @@ fn fill_pairs(pairs: &[u8], list: &mut [u32], place: usize, top: u32)
 
 // The numbers, into a list that holds them.
 fn fill(through: u32, count: u8, pairs: &[u8], list: &mut [u32])
-    requires { (count + runSum (wholePairs pairs.now) ≤ through) × (length (ackNumbers through count pairs.now) ≤ length list.old) }
-    ensures { list.new ≡ splice list.old 0 (ackNumbers through count pairs.now) }
+    requires { (count + run_sum (whole_pairs pairs.now) ≤ through) × (length (ack_numbers through count pairs.now) ≤ length list.old) }
+    ensures { list.new ≡ splice list.old 0 (ack_numbers through count pairs.now) }
 {
     let first = count as u32;
     list[0] = through;
@@ -104,7 +104,7 @@ fn fill(through: u32, count: u8, pairs: &[u8], list: &mut [u32])
 }
 
 pub fn expand(through: u32, count: u8, pairs: &[u8], list: &mut [u32]) -> Expanded
-    ensures { (result ≡ expandOf through count pairs.now (length list.old)) × (list.new ≡ listAfter through count pairs.now list.old) }
+    ensures { (result ≡ expand_of through count pairs.now (length list.old)) × (list.new ≡ list_after through count pairs.now list.old) }
 {
     let m = measure(through, count, pairs);
     if !m.within {
@@ -134,7 +134,7 @@ pub fn expand_ack(
     pairs: Part,
     list: &mut [u32],
 ) -> Expanded
-    ensures { (result ≡ expandOf through count (part payload.now pairs.start pairs.len) (length list.old)) × (list.new ≡ listAfter through count (part payload.now pairs.start pairs.len) list.old) }
+    ensures { (result ≡ expand_of through count (part payload.now pairs.start pairs.len) (length list.old)) × (list.new ≡ list_after through count (part payload.now pairs.start pairs.len) list.old) }
 {
     let from = shorter(pairs.start, payload.len());
     let to = from + shorter(pairs.len, payload.len() - from);

@@ -1,7 +1,7 @@
 // The ring of 255 marks: number n's mark stands at n % 255, and is set where it is not 0.
 ghost use Rattle.std.specs.Prelude.{◌≡◌, ◌+◌, ◌-◌, ◌≤◌, ◌%◌, max, length};
-ghost use Rattle.acks.specs.History.{answerTo};
-ghost use Rattle.acks.specs.Tracking.{mark, isDuplicate, clearUp, marksAfter};
+ghost use Rattle.acks.specs.History.{answer_to};
+ghost use Rattle.acks.specs.Tracking.{mark, is_duplicate, clear_up, marks_after};
 
 pub fn marked(m: &[u8], n: u32) -> bool
     requires { length m.now ≡ 255 }
@@ -14,7 +14,7 @@ pub fn marked(m: &[u8], n: u32) -> bool
 // Whether n is in the window that ends at top, and marked.
 pub fn holds(m: &[u8], top: u32, n: u32) -> bool
     requires { length m.now ≡ 255 }
-    ensures { result ≡ isDuplicate top m.now n }
+    ensures { result ≡ is_duplicate top m.now n }
 {
     if top < n {
         return false;
@@ -28,7 +28,7 @@ pub fn holds(m: &[u8], top: u32, n: u32) -> bool
 // What a registration of n answers.
 pub fn answer(m: &[u8], top: u32, n: u32) -> u32
     requires { length m.now ≡ 255 }
-    ensures { result ≡ answerTo top (isDuplicate top m.now) n }
+    ensures { result ≡ answer_to top (is_duplicate top m.now) n }
 {
     if (top as u64) + 255 < n as u64 {
         return 40;
@@ -45,7 +45,7 @@ pub fn answer(m: &[u8], top: u32, n: u32) -> u32
 // The marks of d numbers, from a upward, unset.
 fn clear(m: &mut [u8], a: u64, d: u64)
     requires { (length m.old ≡ 255) × (a ≤ 4294967296) × (d ≤ 4294967296) }
-    ensures { m.new ≡ clearUp m.old a d }
+    ensures { m.new ≡ clear_up m.old a d }
 {
     let mut k: u64 = 0;
     while k < d {
@@ -71,7 +71,7 @@ pub fn larger(top: u32, n: u32) -> u32
 // The marks once n was accepted: top's too, which is number 0's with the first number.
 pub fn accept(m: &mut [u8], top: u32, n: u32)
     requires { length m.old ≡ 255 }
-    ensures { m.new ≡ marksAfter m.old top n }
+    ensures { m.new ≡ marks_after m.old top n }
 {
     let at = (top % 255) as usize;
     m[at] = 1;

@@ -1,8 +1,8 @@
 // Whether an acknowledgement names a number, found by a walk up its pairs, the last pair first: for numbers that rise it goes over the pairs once.
 ghost use Rattle.std.specs.Prelude.{◌≡◌, ◌+◌, ◌≤◌};
-ghost use Rattle.acks.specs.Runs.{wholePairs, runSum};
+ghost use Rattle.acks.specs.Runs.{whole_pairs, run_sum};
 ghost use Rattle.acks.specs.History.{among};
-ghost use Rattle.acks.specs.Expanding.{ackNumbers};
+ghost use Rattle.acks.specs.Expanding.{ack_numbers};
 ghost use Rattle.acks.specs.Naming.{StandsAt, RunOf};
 
 use acks_expand::byte;
@@ -19,8 +19,8 @@ pub struct Found {
 
 // The walk goes up from where it stands, to the pair that speaks of x; and over it where x is skipped, as the numbers above that run are.
 fn climb(through: u32, count: u8, pairs: &[u8], place: usize, low: u32, x: u32) -> Found
-    requires { (count + runSum (wholePairs pairs.now) ≤ through) × StandsAt through count pairs.now place low × (low ≤ x) }
-    ensures { (result.named ≡ among (ackNumbers through count pairs.now) x) × StandsAt through count pairs.now result.place result.low × RunOf through count pairs.now result.first result.last result.named }
+    requires { (count + run_sum (whole_pairs pairs.now) ≤ through) × StandsAt through count pairs.now place low × (low ≤ x) }
+    ensures { (result.named ≡ among (ack_numbers through count pairs.now) x) × StandsAt through count pairs.now result.place result.low × RunOf through count pairs.now result.first result.last result.named }
 {
     let mut p = place;
     let mut above = low;
@@ -78,8 +78,8 @@ pub fn find(
     low: u32,
     x: u32,
 ) -> Found
-    requires { (lowest + (count + runSum (wholePairs pairs.now)) ≡ through) × StandsAt through count pairs.now place low }
-    ensures { (result.named ≡ among (ackNumbers through count pairs.now) x) × StandsAt through count pairs.now result.place result.low × RunOf through count pairs.now result.first result.last result.named }
+    requires { (lowest + (count + run_sum (whole_pairs pairs.now)) ≡ through) × StandsAt through count pairs.now place low }
+    ensures { (result.named ≡ among (ack_numbers through count pairs.now) x) × StandsAt through count pairs.now result.place result.low × RunOf through count pairs.now result.first result.last result.named }
 {
     if low <= x {
         return climb(through, count, pairs, place, low, x);

@@ -1,6 +1,6 @@
 // A report written as an Ack block.
 ghost use Rattle.std.specs.Prelude.{◌≡◌, length};
-ghost use Rattle.acks.specs.AckBlocks.{ackFieldsOf, ackWriting, ackRoom};
+ghost use Rattle.acks.specs.AckBlocks.{ack_fields_of, ack_writing, ack_room};
 
 use acks::AckInfo;
 use blocks::{ACK, ACK_COUNT, ACK_THROUGH, Written};
@@ -8,7 +8,7 @@ use blocks_rows::no_fields;
 use wire::shorter;
 
 fn fields_of(r: AckInfo) -> [u64; 8]
-    ensures { result ≡ ackFieldsOf r }
+    ensures { result ≡ ack_fields_of r }
 {
     let mut fields = no_fields();
     fields[ACK_THROUGH] = r.through as u64;
@@ -18,7 +18,7 @@ fn fields_of(r: AckInfo) -> [u64; 8]
 
 // To the start of a room. A report that was refused is not written, and its number is the answer.
 pub fn write_ack(report: AckInfo, room: &mut [u8]) -> Written
-    ensures { (result ≡ ackWriting report (length room.old)) × (room.new ≡ ackRoom report room.old) }
+    ensures { (result ≡ ack_writing report (length room.old)) × (room.new ≡ ack_room report room.old) }
 {
     let number = report.number;
     let pairs = report.pairs;

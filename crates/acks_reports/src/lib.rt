@@ -4,13 +4,13 @@ mod runs;
 
 ghost use Rattle.std.specs.Prelude.{◌≡◌, length};
 ghost use Rattle.acks.specs.Tracking.{mark};
-ghost use Rattle.acks.specs.Reporting.{refusedReport, reportOf, ackInfo};
-ghost use Rattle.acks.specs.Recorded.{reportThere};
+ghost use Rattle.acks.specs.Reporting.{refused_report, report_of, ack_info};
+ghost use Rattle.acks.specs.Recorded.{report_there};
 
 use acks::{AckInfo, MARKS_AT, TRACKER_SIZE, Tracker};
 
 fn refused(number: u32) -> AckInfo
-    ensures { result ≡ refusedReport number }
+    ensures { result ≡ refused_report number }
 {
     AckInfo {
         number,
@@ -24,7 +24,7 @@ fn refused(number: u32) -> AckInfo
 // What the marks of the window that ends at top report.
 fn report_of(m: &[u8], top: u32) -> AckInfo
     requires { length m.now ≡ 255 }
-    ensures { result ≡ reportOf top (mark m.now) }
+    ensures { result ≡ report_of top (mark m.now) }
 {
     if !acks_marks::marked(m, top) {
         return refused(41);
@@ -43,7 +43,7 @@ fn report_of(m: &[u8], top: u32) -> AckInfo
 }
 
 pub fn report(t: Tracker) -> AckInfo
-    ensures { result ≡ ackInfo t }
+    ensures { result ≡ ack_info t }
 {
     let m = t.marks;
     report_of(&m, t.highest)
@@ -51,7 +51,7 @@ pub fn report(t: Tracker) -> AckInfo
 
 // Of the tracker as 259 bytes that a caller lends; a report with number 59 where the record is short.
 pub fn report_in(tracker: &[u8]) -> AckInfo
-    ensures { result ≡ reportThere tracker.now }
+    ensures { result ≡ report_there tracker.now }
 {
     if tracker.len() < TRACKER_SIZE {
         return refused(59);

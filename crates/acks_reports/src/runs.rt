@@ -1,6 +1,6 @@
 // Runs of received and missing numbers, downward, and the pairs that a report makes of them.
 ghost use Rattle.std.specs.Prelude.{◌≡◌, true, [], ◌≤◌, min, length};
-ghost use Rattle.acks.specs.Runs.{leading, laterRuns};
+ghost use Rattle.acks.specs.Runs.{leading, later_runs};
 ghost use Rattle.acks.specs.Reporting.{view, padded};
 
 pub(crate) fn lesser(a: u32, b: u32) -> u32
@@ -54,7 +54,7 @@ pub(crate) fn blank() -> [u8; 254]
 // The pairs of missing and received runs of the k numbers below top, of which the first is missing.
 pub(crate) fn pairs(m: &[u8], top: u32, k: u32) -> PairBytes
     requires { (length m.now ≡ 255) × (k ≤ top) × (k ≤ 254) × (leading true (view m.now top k) ≡ 0) }
-    ensures { (result.bytes ≡ padded (laterRuns true (view m.now top k))) × (result.len ≡ length (laterRuns true (view m.now top k))) }
+    ensures { (result.bytes ≡ padded (later_runs true (view m.now top k))) × (result.len ≡ length (later_runs true (view m.now top k))) }
 {
     let mut bytes = blank();
     let mut len: usize = 0;

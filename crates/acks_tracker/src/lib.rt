@@ -2,7 +2,7 @@
 pub mod recorded;
 
 ghost use Rattle.std.specs.Prelude.{◌≡◌};
-ghost use Rattle.acks.specs.Tracking.{fresh, isDuplicate, registerOf};
+ghost use Rattle.acks.specs.Tracking.{fresh, is_duplicate, register_of};
 
 use acks::{Registered, Tracker};
 
@@ -17,7 +17,7 @@ pub fn new() -> Tracker
 
 // Whether n is in the window and received.
 pub fn is_duplicate(t: Tracker, n: u32) -> bool
-    ensures { result ≡ isDuplicate t.highest t.marks n }
+    ensures { result ≡ is_duplicate t.highest t.marks n }
 {
     let top = t.highest;
     let m = t.marks;
@@ -26,7 +26,7 @@ pub fn is_duplicate(t: Tracker, n: u32) -> bool
 
 // The Rust's `register_pkt`.
 pub fn register(t: Tracker, n: u32) -> Registered
-    ensures { result ≡ registerOf t n }
+    ensures { result ≡ register_of t n }
 {
     let top = t.highest;
     let mut m = t.marks;

@@ -8,103 +8,103 @@ use lib.Dec.{ltb, eqb}
 use lib.ListN.{length}
 use borrow.Author.Tests.{lt-ltb, le-ltb, ne_eqb}
 use Rattle.wire.specs.Parts.{splice}
-use Rattle.wire.specs.Numbers.{bigBytes}
+use Rattle.wire.specs.Numbers.{big_bytes}
 use Rattle.wire.proofs.Parts.{puts}
-use Rattle.wire.proofs.Numbers.{length-big}
+use Rattle.wire.proofs.Numbers.{length_big}
 use Rattle.blocks.specs.declared.After.{After}
 use Rattle.blocks.specs.declared.After.TheVariants.{Nothing, Any, Some, Pairs, Ip}
 use Rattle.blocks.specs.declared.Part.{Part}
 use Rattle.blocks.specs.declared.Extent.TheVariants as End
 use Rattle.blocks.specs.declared.Written.{Written}
 use Rattle.blocks.specs.declared.Written.TheVariants as Wrote
-use Rattle.blocks.specs.Layout.{sum, fields_at, fieldBytes, eight}
-use Rattle.blocks.specs.Table.{widths, afterFields, fieldLength, carries, allowed}
+use Rattle.blocks.specs.Layout.{sum, fields_at, field_bytes, eight}
+use Rattle.blocks.specs.Table.{widths, after_fields, field_length, carries, allowed}
 use Rattle.blocks.specs.Packed.{digit}
-use Rattle.blocks.specs.Extent.{extentAt}
-use Rattle.blocks.specs.Reading.{block_read, bytesAfter, reading, readAt}
-use Rattle.blocks.specs.Writing.{carriedBytes, size_of, blockBytes, isProper, writing, stored, roomAfter}
-use Rattle.blocks.proofs.Laws.{length-bytes}
+use Rattle.blocks.specs.Extent.{extent_at}
+use Rattle.blocks.specs.Reading.{block_read, bytes_after, reading, read_at}
+use Rattle.blocks.specs.Writing.{carried_bytes, size_of, block_bytes, is_proper, writing, stored, room_after}
+use Rattle.blocks.proofs.Laws.{length_bytes}
 
 -- ---- whether so many bytes may follow, by the digit of what follows
 
-unfoldable pub allowedBy : ℕ → ℕ → Bool
-allowedBy n d = cond (eqb d 0) true (cond (eqb d 1) true (cond (eqb d 2) (ltb 0 n) (cond (eqb d 3) (eqb (n % 2) 0) (eqb n 4 || eqb n 16))))
+unfoldable pub allowed_by : ℕ → ℕ → Bool
+allowed_by n d = cond (eqb d 0) true (cond (eqb d 1) true (cond (eqb d 2) (ltb 0 n) (cond (eqb d 3) (eqb (n % 2) 0) (eqb n 4 || eqb n 16))))
 
-pub allowed-by : (kind n : ℕ) {d : ℕ} → d ≡ digit (afterFields kind) → allowedBy n d ≡ allowed (afterFields kind) n
-unfolding allowedBy
-allowed-by kind n e = ap (allowedBy n) e ∙ go (afterFields kind)
+pub allowed_by_lem : (kind n : ℕ) {d : ℕ} → d ≡ digit (after_fields kind) → allowed_by n d ≡ allowed (after_fields kind) n
+unfolding allowed_by
+allowed_by_lem kind n e = ap (allowed_by n) e ∙ go (after_fields kind)
   where
-    go : (a : After) → allowedBy n (digit a) ≡ allowed a n
+    go : (a : After) → allowed_by n (digit a) ≡ allowed a n
     go Nothing = refl
     go Any = refl
     go Some = refl
     go Pairs = refl
     go Ip = refl
 
-pub allowed-else : {A : Type 0} (n : ℕ) {d : ℕ} → (((A × (d ≡ 0 → ⊥)) × (d ≡ 1 → ⊥)) × (d ≡ 2 → ⊥)) × (d ≡ 3 → ⊥) → (eqb n 4 || eqb n 16) ≡ allowedBy n d
-unfolding allowedBy
-allowed-else n {d} r = sym (rw (ne_eqb d 0 r.0.0.0.1, ne_eqb d 1 r.0.0.1, ne_eqb d 2 r.0.1, ne_eqb d 3 r.1) refl)
+pub allowed_else : {A : Type 0} (n : ℕ) {d : ℕ} → (((A × (d ≡ 0 → ⊥)) × (d ≡ 1 → ⊥)) × (d ≡ 2 → ⊥)) × (d ≡ 3 → ⊥) → (eqb n 4 || eqb n 16) ≡ allowed_by n d
+unfolding allowed_by
+allowed_else n {d} r = sym (rw (ne_eqb d 0 r.0.0.0.1, ne_eqb d 1 r.0.0.1, ne_eqb d 2 r.0.1, ne_eqb d 3 r.1) refl)
 
 -- ---- a block's size and the bytes after its fields
 
 module _ (kind : ℕ) (body : List ℕ) where
-  pub sized : {x y : ℕ} → x ≡ fieldLength kind → y ≡ cond (carries (afterFields kind)) (length body) 0 → x + y ≡ size_of kind body
-  unfolding size_of carriedBytes
-  sized {x} {y} p q = ap (λ (z : ℕ). z + y) p ∙ ap (λ (z : ℕ). fieldLength kind + z) (q ∙ go (carries (afterFields kind)))
+  pub sized : {x y : ℕ} → x ≡ field_length kind → y ≡ cond (carries (after_fields kind)) (length body) 0 → x + y ≡ size_of kind body
+  unfolding size_of carried_bytes
+  sized {x} {y} p q = ap (λ (z : ℕ). z + y) p ∙ ap (λ (z : ℕ). field_length kind + z) (q ∙ go (carries (after_fields kind)))
     where
       go : (t : Bool) → cond t (length body) 0 ≡ length (cond t body [])
       go true = refl
       go false = refl
 
   -- where bytes follow, they are the rest of it
-  pub carried-size : carries (afterFields kind) ≡ true → size_of kind body ≡ fieldLength kind + length body
-  unfolding size_of carriedBytes
-  carried-size c = ap (λ (t : Bool). fieldLength kind + length (cond t body [])) c
+  pub carried_size : carries (after_fields kind) ≡ true → size_of kind body ≡ field_length kind + length body
+  unfolding size_of carried_bytes
+  carried_size c = ap (λ (t : Bool). field_length kind + length (cond t body [])) c
 
 module _ (kind : ℕ) (fields body room : List ℕ) where
   -- type, size, fields, bytes, one after the other
-  pub block-put : {a b c d : List ℕ} {size : ℕ} {ws : List ℕ}
+  pub block_put : {a b c d : List ℕ} {size : ℕ} {ws : List ℕ}
       → size ≡ size_of kind body → 3 + size ≤ length room → ws ≡ widths kind → length ws ≤ length fields
-      → a ≡ splice room 0 (kind ∷ []) → b ≡ splice a 1 (bigBytes 2 size) → c ≡ splice b 3 (fieldBytes ws fields) → d ≡ splice c (3 + fieldLength kind) (carriedBytes kind body)
-      → d ≡ splice room 0 (blockBytes kind fields body)
-  unfolding blockBytes size_of fieldLength
-  block-put {a} {b} {c} {d} {size} {ws} es fit ew few p q r t =
-      let lf : length (fieldBytes ws fields) ≡ fieldLength kind = length-bytes ws fields few ∙ ap sum ew in
-      let two = puts room 0 1 2 1 (kind ∷ []) (bigBytes 2 size) refl (length-big 2 size) refl (omega arith) p q in
-      let three = puts room 0 3 (fieldLength kind) 3 ((kind ∷ []) ++ bigBytes 2 size) (fieldBytes ws fields) two.1 lf refl (omega arith) two.0 r in
-      let four = puts room 0 (3 + fieldLength kind) (length (carriedBytes kind body)) (3 + fieldLength kind) ((kind ∷ []) ++ bigBytes 2 size ++ fieldBytes ws fields) (carriedBytes kind body) three.1 refl (omega arith) (omega arith) three.0 t in
+      → a ≡ splice room 0 (kind ∷ []) → b ≡ splice a 1 (big_bytes 2 size) → c ≡ splice b 3 (field_bytes ws fields) → d ≡ splice c (3 + field_length kind) (carried_bytes kind body)
+      → d ≡ splice room 0 (block_bytes kind fields body)
+  unfolding block_bytes size_of field_length
+  block_put {a} {b} {c} {d} {size} {ws} es fit ew few p q r t =
+      let lf : length (field_bytes ws fields) ≡ field_length kind = length_bytes ws fields few ∙ ap sum ew in
+      let two = puts room 0 1 2 1 (kind ∷ []) (big_bytes 2 size) refl (length_big 2 size) refl (omega arith) p q in
+      let three = puts room 0 3 (field_length kind) 3 ((kind ∷ []) ++ big_bytes 2 size) (field_bytes ws fields) two.1 lf refl (omega arith) two.0 r in
+      let four = puts room 0 (3 + field_length kind) (length (carried_bytes kind body)) (3 + field_length kind) ((kind ∷ []) ++ big_bytes 2 size ++ field_bytes ws fields) (carried_bytes kind body) three.1 refl (omega arith) (omega arith) three.0 t in
       four.0
-      ∙ ap (λ (z : ℕ). splice room 0 ((kind ∷ []) ++ bigBytes 2 z ++ fieldBytes ws fields ++ carriedBytes kind body)) es
-      ∙ ap (λ (us : List ℕ). splice room 0 ((kind ∷ []) ++ bigBytes 2 (size_of kind body) ++ fieldBytes us fields ++ carriedBytes kind body)) ew
+      ∙ ap (λ (z : ℕ). splice room 0 ((kind ∷ []) ++ big_bytes 2 z ++ field_bytes ws fields ++ carried_bytes kind body)) es
+      ∙ ap (λ (us : List ℕ). splice room 0 ((kind ∷ []) ++ big_bytes 2 (size_of kind body) ++ field_bytes us fields ++ carried_bytes kind body)) ew
 
   -- ---- the answers
 
   -- an answer, and the room that goes with it
-  pub answers : {w : Written} {m : List ℕ} → writing kind fields body (length room) ≡ w → m ≡ stored w kind fields body room → (w ≡ writing kind fields body (length room)) × (m ≡ roomAfter kind fields body room)
-  unfolding roomAfter
+  pub answers : {w : Written} {m : List ℕ} → writing kind fields body (length room) ≡ w → m ≡ stored w kind fields body room → (w ≡ writing kind fields body (length room)) × (m ≡ room_after kind fields body room)
+  unfolding room_after
   answers e q = (sym e, q ∙ sym (ap (λ (z : Written). stored z kind fields body room) e))
 
-  pub is_32 : isProper kind fields (length body) ≡ false → writing kind fields body (length room) ≡ Wrote.Refused 32
+  pub is_32 : is_proper kind fields (length body) ≡ false → writing kind fields body (length room) ≡ Wrote.Refused 32
   unfolding writing
   is_32 h = rw h
 
-  module _ (proper : isProper kind fields (length body) ≡ true) where
-    pub is-31 : 65535 < size_of kind body → writing kind fields body (length room) ≡ Wrote.Refused 31
+  module _ (proper : is_proper kind fields (length body) ≡ true) where
+    pub is_31 : 65535 < size_of kind body → writing kind fields body (length room) ≡ Wrote.Refused 31
     unfolding writing
-    is-31 g = rw (proper, lt-ltb 65535 (size_of kind body) g)
+    is_31 g = rw (proper, lt-ltb 65535 (size_of kind body) g)
 
-    pub is-30 : size_of kind body ≤ 65535 → length room < 3 + size_of kind body → writing kind fields body (length room) ≡ Wrote.Refused 30
+    pub is_30 : size_of kind body ≤ 65535 → length room < 3 + size_of kind body → writing kind fields body (length room) ≡ Wrote.Refused 30
     unfolding writing
-    is-30 g f = rw (proper, le-ltb 65535 (size_of kind body) g, lt-ltb (length room) (3 + size_of kind body) f)
+    is_30 g f = rw (proper, le-ltb 65535 (size_of kind body) g, lt-ltb (length room) (3 + size_of kind body) f)
 
-    pub is-length : size_of kind body ≤ 65535 → 3 + size_of kind body ≤ length room → writing kind fields body (length room) ≡ Wrote.Length (3 + size_of kind body)
+    pub is_length : size_of kind body ≤ 65535 → 3 + size_of kind body ≤ length room → writing kind fields body (length room) ≡ Wrote.Length (3 + size_of kind body)
     unfolding writing
-    is-length g f = rw (proper, le-ltb 65535 (size_of kind body) g, le-ltb (length room) (3 + size_of kind body) f)
+    is_length g f = rw (proper, le-ltb 65535 (size_of kind body) g, le-ltb (length room) (3 + size_of kind body) f)
 
 -- ---- reading
 
 module _ (s : List ℕ) (at : ℕ) where
-  pub reads-block : {kind size next : ℕ} {fields : List ℕ} {bytes : Part} → extentAt s at ≡ End.Ends kind size next → fields ≡ eight (fields_at (widths kind) s (at + 3)) → bytes ≡ bytesAfter kind (at + 3) (next - (at + 3))
-      → block_read kind size next fields bytes ≡ readAt s at
-  unfolding readAt
-  reads-block {kind} {size} {next} e p q = (λ i. block_read kind size next (p i) (q i)) ∙ sym (ap (reading s at) e)
+  pub reads_block : {kind size next : ℕ} {fields : List ℕ} {bytes : Part} → extent_at s at ≡ End.Ends kind size next → fields ≡ eight (fields_at (widths kind) s (at + 3)) → bytes ≡ bytes_after kind (at + 3) (next - (at + 3))
+      → block_read kind size next fields bytes ≡ read_at s at
+  unfolding read_at
+  reads_block {kind} {size} {next} e p q = (λ i. block_read kind size next (p i) (q i)) ∙ sym (ap (reading s at) e)

@@ -11,13 +11,13 @@ use borrow.Author.Tests.{ne_eqb}
 use lib.ListN.{length, drop, get_or, set, replicate, length-append, length-drop}
 use lib.Seq.{set_at, drop-cons}
 use Rattle.wire.specs.Parts.{splice}
-use Rattle.wire.specs.Numbers.{bigAt, bigBytes}
-use Rattle.wire.proofs.Parts.{puts, length-splice}
-use Rattle.wire.proofs.Numbers.{length-big}
-use Rattle.wire.proofs.Slices.{splice-none}
-use Rattle.blocks.specs.Layout.{sum, fields_at, fieldBytes, fits, eight}
+use Rattle.wire.specs.Numbers.{big_at, big_bytes}
+use Rattle.wire.proofs.Parts.{puts, length_splice}
+use Rattle.wire.proofs.Numbers.{length_big}
+use Rattle.wire.proofs.Slices.{splice_none}
+use Rattle.blocks.specs.Layout.{sum, fields_at, field_bytes, fits, eight}
 use Rattle.blocks.specs.Packed.{width_of, unpacked}
-use Rattle.blocks.proofs.Laws.{length-bytes}
+use Rattle.blocks.proofs.Laws.{length_bytes}
 
 -- ---- digits
 
@@ -26,10 +26,10 @@ unfolding unpacked
 none_left zero left e = refl
 none_left (suc n) left e = rw e
 
-pub few-widths : (n r : ℕ) → length (unpacked n r) ≤ n
+pub few_widths : (n r : ℕ) → length (unpacked n r) ≤ n
 unfolding unpacked
-few-widths zero r = omega arith
-few-widths (suc n) r = go (eqb r 0) (few-widths n (r / 16))
+few_widths zero r = omega arith
+few_widths (suc n) r = go (eqb r 0) (few_widths n (r / 16))
   where
     go : (b : Bool) → length (unpacked n (r / 16)) ≤ n → length (cond b [] (width_of (r % 16) ∷ unpacked n (r / 16))) ≤ suc n
     go true h = omega arith
@@ -54,17 +54,17 @@ module _ {n left at i : ℕ} (l : Left n left at i) (some : left ≡ 0 → ⊥) 
   next = rw (turn, ne_eqb left 0 some)
 
   -- the field of the next digit is there, and those after it
-  pub there-next : at + width_of (left % 16) + sum (unpacked (8 - (i + 1)) (left / 16)) ≤ n
+  pub there_next : at + width_of (left % 16) + sum (unpacked (8 - (i + 1)) (left / 16)) ≤ n
   unfolding sum
-  there-next =
+  there_next =
       let t : at + sum (width_of (left % 16) ∷ unpacked (8 - (i + 1)) (left / 16)) ≤ n = subst (λ (ws : List ℕ). at + sum ws ≤ n) next l.there in
       omega arith
 
-  left-turn : Left n (left / 16) (at + width_of (left % 16)) (i + 1)
-  left-turn =
+  left_turn : Left n (left / 16) (at + width_of (left % 16)) (i + 1)
+  left_turn =
       let f : left < 16 ^ (8 - (i + 1)) * 16 = subst (λ (z : ℕ). left < z) (ap (λ (m : ℕ). 16 ^ m) turn ∙ pow-suc 16 (8 - (i + 1))) l.small in
       let p : 0 < 16 = omega arith in
-      record { small = (div-lt_iff_lt-mul p).1 f; there = there-next }
+      record { small = (div-lt_iff_lt-mul p).1 f; there = there_next }
 
   -- the next number, of eight
   number : (fields : List ℕ) → length fields ≡ 8 → drop i fields ≡ get_or fields i 0 ∷ drop (i + 1) fields
@@ -80,16 +80,16 @@ pub record Reads (s : List ℕ) (body row : ℕ) (fields : List ℕ) (left at i 
   pub done : got ++ fields_at (unpacked (8 - i) left) s at ≡ fields_at (unpacked 8 row) s body
 
 module _ {s : List ℕ} {body row : ℕ} where
-  pub reads-start : (fields : List ℕ) → fields ≡ eight [] → row < 4294967296 → body + sum (unpacked 8 row) ≤ length s → Reads s body row fields row body 0
+  pub reads_start : (fields : List ℕ) → fields ≡ eight [] → row < 4294967296 → body + sum (unpacked 8 row) ≤ length s → Reads s body row fields row body 0
   unfolding eight
-  reads-start fields e h g = record { rest = record { small = h; there = g }; got = []; many = refl; filled = e; done = refl }
+  reads_start fields e h g = record { rest = record { small = h; there = g }; got = []; many = refl; filled = e; done = refl }
 
-  pub reads-turn : {fields : List ℕ} {left at i : ℕ} (v w : ℕ) → Reads s body row fields left at i → (left ≡ 0 → ⊥) → v ≡ bigAt (width_of (left % 16)) s at → w ≡ width_of (left % 16) → Reads s body row (set fields i v) (left / 16) (at + w) (i + 1)
+  pub reads_turn : {fields : List ℕ} {left at i : ℕ} (v w : ℕ) → Reads s body row fields left at i → (left ≡ 0 → ⊥) → v ≡ big_at (width_of (left % 16)) s at → w ≡ width_of (left % 16) → Reads s body row (set fields i v) (left / 16) (at + w) (i + 1)
   unfolding fields_at
-  reads-turn {fields} {left} {at} {i} v w r some e f =
-      let b = bigAt (width_of (left % 16)) s at in
+  reads_turn {fields} {left} {at} {i} v w r some e f =
+      let b = big_at (width_of (left % 16)) s at in
       rw (e, f) (record {
-        rest = left-turn r.rest some;
+        rest = left_turn r.rest some;
         got = r.got ++ (b ∷ []);
         many = length-append r.got (b ∷ []) ∙ ap (λ (n : ℕ). n + 1) r.many;
         filled =
@@ -118,16 +118,16 @@ pub record Judges (row : ℕ) (fields : List ℕ) (ok : Bool) (left i : ℕ) : T
   pub done : (ok && fits (unpacked (8 - i) left) (drop i fields)) ≡ fits (unpacked 8 row) fields
 
 module _ {row : ℕ} {fields : List ℕ} where
-  pub judges-start : length fields ≡ 8 → row < 4294967296 → Judges row fields true row 0
-  judges-start e h = record { at = 0; rest = record { small = h; there = omega arith }; long = e; done = refl }
+  pub judges_start : length fields ≡ 8 → row < 4294967296 → Judges row fields true row 0
+  judges_start e h = record { at = 0; rest = record { small = h; there = omega arith }; long = e; done = refl }
 
-  pub judges-turn : {ok : Bool} {left i : ℕ} (t : Bool) → Judges row fields ok left i → (left ≡ 0 → ⊥) → t ≡ ltb (get_or fields i 0) (256 ^ width_of (left % 16)) → Judges row fields (ok && t) (left / 16) (i + 1)
+  pub judges_turn : {ok : Bool} {left i : ℕ} (t : Bool) → Judges row fields ok left i → (left ≡ 0 → ⊥) → t ≡ ltb (get_or fields i 0) (256 ^ width_of (left % 16)) → Judges row fields (ok && t) (left / 16) (i + 1)
   unfolding fits
-  judges-turn {ok} {left} {i} t j some e =
+  judges_turn {ok} {left} {i} t j some e =
       let F = fits (unpacked (8 - (i + 1)) (left / 16)) (drop (i + 1) fields) in
       record {
         at = _;
-        rest = left-turn j.rest some;
+        rest = left_turn j.rest some;
         long = j.long;
         done =
             and_assoc ok t F
@@ -137,9 +137,9 @@ module _ {row : ℕ} {fields : List ℕ} where
             ∙ j.done;
       }
 
-  pub judges-end : (ok : Bool) (left i : ℕ) → left ≡ 0 → Judges row fields ok left i → ok ≡ fits (unpacked 8 row) fields
+  pub judges_end : (ok : Bool) (left i : ℕ) → left ≡ 0 → Judges row fields ok left i → ok ≡ fits (unpacked 8 row) fields
   unfolding fits
-  judges-end ok left i e j =
+  judges_end ok left i e j =
       sym (and-true ok)
       ∙ ap (λ (ws : List ℕ). ok && fits ws (drop i fields)) (sym (none_left (8 - i) left e))
       ∙ j.done
@@ -150,35 +150,35 @@ pub record Puts (room₀ : List ℕ) (body row : ℕ) (fields room : List ℕ) (
   pub rest : Left (length room₀) left at i
   pub long : length fields ≡ 8
   pub as_long : length room ≡ length room₀
-  pub done : splice room at (fieldBytes (unpacked (8 - i) left) (drop i fields)) ≡ splice room₀ body (fieldBytes (unpacked 8 row) fields)
+  pub done : splice room at (field_bytes (unpacked (8 - i) left) (drop i fields)) ≡ splice room₀ body (field_bytes (unpacked 8 row) fields)
 
 module _ {room₀ : List ℕ} {body row : ℕ} {fields : List ℕ} where
-  pub puts-start : length fields ≡ 8 → row < 4294967296 → body + sum (unpacked 8 row) ≤ length room₀ → Puts room₀ body row fields room₀ row body 0
-  puts-start e h g = record { rest = record { small = h; there = g }; long = e; as_long = refl; done = refl }
+  pub puts_start : length fields ≡ 8 → row < 4294967296 → body + sum (unpacked 8 row) ≤ length room₀ → Puts room₀ body row fields room₀ row body 0
+  puts_start e h g = record { rest = record { small = h; there = g }; long = e; as_long = refl; done = refl }
 
-  pub puts-turn : {room : List ℕ} {left at i : ℕ} (room' : List ℕ) (w : ℕ) → Puts room₀ body row fields room left at i → (left ≡ 0 → ⊥) → room' ≡ splice room at (bigBytes (width_of (left % 16)) (get_or fields i 0)) → w ≡ width_of (left % 16) → Puts room₀ body row fields room' (left / 16) (at + w) (i + 1)
-  unfolding fieldBytes
-  puts-turn {room} {left} {at} {i} room' w p some e f =
-      let b = bigBytes (width_of (left % 16)) (get_or fields i 0) in
-      let lb = length-big (width_of (left % 16)) (get_or fields i 0) in
+  pub puts_turn : {room : List ℕ} {left at i : ℕ} (room' : List ℕ) (w : ℕ) → Puts room₀ body row fields room left at i → (left ≡ 0 → ⊥) → room' ≡ splice room at (big_bytes (width_of (left % 16)) (get_or fields i 0)) → w ≡ width_of (left % 16) → Puts room₀ body row fields room' (left / 16) (at + w) (i + 1)
+  unfolding field_bytes
+  puts_turn {room} {left} {at} {i} room' w p some e f =
+      let b = big_bytes (width_of (left % 16)) (get_or fields i 0) in
+      let lb = length_big (width_of (left % 16)) (get_or fields i 0) in
       let ws = unpacked (8 - (i + 1)) (left / 16) in
       let us = drop (i + 1) fields in
-      let lF = length-bytes ws us (omega (arith, length-drop (i + 1) fields, p.long, few-widths (8 - (i + 1)) (left / 16))) in
-      let g : at + width_of (left % 16) + sum ws ≤ length room = omega (arith, there-next p.rest some, p.as_long) in
+      let lF = length_bytes ws us (omega (arith, length-drop (i + 1) fields, p.long, few_widths (8 - (i + 1)) (left / 16))) in
+      let g : at + width_of (left % 16) + sum ws ≤ length room = omega (arith, there_next p.rest some, p.as_long) in
       rw f (record {
-        rest = left-turn p.rest some;
+        rest = left_turn p.rest some;
         long = p.long;
-        as_long = ap length e ∙ length-splice room at b (omega (arith, lb, g)) ∙ p.as_long;
+        as_long = ap length e ∙ length_splice room at b (omega (arith, lb, g)) ∙ p.as_long;
         done =
-            (puts room at _ (sum ws) _ b (fieldBytes ws us) lb lF refl g e refl).0
-            ∙ ap (λ (vs : List ℕ). splice room at (fieldBytes (width_of (left % 16) ∷ ws) vs)) (sym (number p.rest some fields p.long))
-            ∙ ap (λ (z : List ℕ). splice room at (fieldBytes z (drop i fields))) (sym (next p.rest some))
+            (puts room at _ (sum ws) _ b (field_bytes ws us) lb lF refl g e refl).0
+            ∙ ap (λ (vs : List ℕ). splice room at (field_bytes (width_of (left % 16) ∷ ws) vs)) (sym (number p.rest some fields p.long))
+            ∙ ap (λ (z : List ℕ). splice room at (field_bytes z (drop i fields))) (sym (next p.rest some))
             ∙ p.done;
       })
 
-  pub puts-end : (room : List ℕ) (left at i : ℕ) → left ≡ 0 → Puts room₀ body row fields room left at i → room ≡ splice room₀ body (fieldBytes (unpacked 8 row) fields)
-  unfolding fieldBytes
-  puts-end room left at i e p =
-      sym (splice-none room at)
-      ∙ ap (λ (ws : List ℕ). splice room at (fieldBytes ws (drop i fields))) (sym (none_left (8 - i) left e))
+  pub puts_end : (room : List ℕ) (left at i : ℕ) → left ≡ 0 → Puts room₀ body row fields room left at i → room ≡ splice room₀ body (field_bytes (unpacked 8 row) fields)
+  unfolding field_bytes
+  puts_end room left at i e p =
+      sym (splice_none room at)
+      ∙ ap (λ (ws : List ℕ). splice room at (field_bytes ws (drop i fields))) (sym (none_left (8 - i) left e))
       ∙ p.done

@@ -14,22 +14,22 @@ use Rattle.blocks.specs.declared.Written.{Written}
 use Rattle.blocks.specs.declared.Written.TheVariants as Wrote
 use Rattle.blocks.specs.Layout.{fits}
 use Rattle.blocks.specs.Table.{widths}
-use Rattle.blocks.specs.Reading.{readAt}
-use Rattle.blocks.specs.Writing.{size_of, isProper, writing, stored, roomAfter}
+use Rattle.blocks.specs.Reading.{read_at}
+use Rattle.blocks.specs.Writing.{size_of, is_proper, writing, stored, room_after}
 pub use Rattle.blocks.proofs.Soundness.{unread}
-use Rattle.blocks.proofs.Named.{ack-proper, ack-size}
-use Rattle.blocks.proofs.Ends.{refused-at}
-use Rattle.blocks.proofs.ReadExtents.{read-extent}
+use Rattle.blocks.proofs.Named.{ack_proper, ack_size}
+use Rattle.blocks.proofs.Ends.{refused_at}
+use Rattle.blocks.proofs.ReadExtents.{read_extent}
 
 -- the room of a writer
-pub write-leaves : (kind : ℕ) (fields body room : List ℕ) (m : ℕ) → writing kind fields body (length room) ≡ Wrote.Refused m → roomAfter kind fields body room ≡ room
-unfolding roomAfter
-write-leaves kind fields body room m e = ap (λ (z : Written). stored z kind fields body room) e
+pub write_leaves : (kind : ℕ) (fields body room : List ℕ) (m : ℕ) → writing kind fields body (length room) ≡ Wrote.Refused m → room_after kind fields body room ≡ room
+unfolding room_after
+write_leaves kind fields body room m e = ap (λ (z : Written). stored z kind fields body room) e
 
 -- 30 to 32 where a block is not written
-pub write-numbers : (kind : ℕ) (fields body : List ℕ) (room m : ℕ) → writing kind fields body room ≡ Wrote.Refused m → OneOf (30 ∷ 31 ∷ 32 ∷ []) m
+pub write_numbers : (kind : ℕ) (fields body : List ℕ) (room m : ℕ) → writing kind fields body room ≡ Wrote.Refused m → OneOf (30 ∷ 31 ∷ 32 ∷ []) m
 unfolding writing
-write-numbers kind fields body room m e = go (isProper kind fields (length body)) (ltb 65535 (size_of kind body)) (ltb room (3 + size_of kind body)) e
+write_numbers kind fields body room m e = go (is_proper kind fields (length body)) (ltb 65535 (size_of kind body)) (ltb room (3 + size_of kind body)) e
   where
     go : (x y z : Bool) → cond x (cond y (Wrote.Refused 31) (cond z (Wrote.Refused 30) (Wrote.Length (3 + size_of kind body)))) (Wrote.Refused 32) ≡ Wrote.Refused m
         → OneOf (30 ∷ 31 ∷ 32 ∷ []) m
@@ -39,17 +39,17 @@ write-numbers kind fields body room m e = go (isProper kind fields (length body)
     go true false false q = let w : ◌≡◌ {A = ℕ} 0 1 = cc in absurd (omega arith)
 
 -- an Ack of whole pairs, not too many, has 30 alone
-pub ack-is-30 : (fields body : List ℕ) (room m : ℕ) → fits (widths 12) fields ≡ true → length body % 2 ≡ 0 → length body ≤ 254 → writing 12 fields body room ≡ Wrote.Refused m → m ≡ 30
+pub ack_is_30 : (fields body : List ℕ) (room m : ℕ) → fits (widths 12) fields ≡ true → length body % 2 ≡ 0 → length body ≤ 254 → writing 12 fields body room ≡ Wrote.Refused m → m ≡ 30
 unfolding writing
-ack-is-30 fields body room m wide even few e = go (ltb room (3 + (5 + length body))) (sym tests ∙ e)
+ack_is_30 fields body room m wide even few e = go (ltb room (3 + (5 + length body))) (sym tests ∙ e)
   where
     tests : writing 12 fields body room ≡ cond (ltb room (3 + (5 + length body))) (Wrote.Refused 30) (Wrote.Length (3 + (5 + length body)))
-    tests = rw (ack-proper fields body wide even, ack-size body, le-ltb 65535 (5 + length body) (omega arith))
+    tests = rw (ack_proper fields body wide even, ack_size body, le-ltb 65535 (5 + length body) (omega arith))
 
     go : (z : Bool) → cond z (Wrote.Refused 30) (Wrote.Length (3 + (5 + length body))) ≡ Wrote.Refused m → m ≡ 30
     go true q = cc
     go false q = let w : ◌≡◌ {A = ℕ} 0 1 = cc in absurd (omega arith)
 
 -- the reader's refusal: the block's own place, and 1 to 9
-pub read-numbers : (s : List ℕ) (at m p : ℕ) → (readAt s at).extent ≡ End.Refused m p → (p ≡ at) × OneOf unread m
-read-numbers s at m p e = refused-at s at m p (sym (read-extent s at) ∙ e)
+pub read_numbers_lem : (s : List ℕ) (at m p : ℕ) → (read_at s at).extent ≡ End.Refused m p → (p ≡ at) × OneOf unread m
+read_numbers_lem s at m p e = refused_at s at m p (sym (read_extent s at) ∙ e)

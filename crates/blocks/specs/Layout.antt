@@ -1,6 +1,6 @@
 -- Fields of any widths, one after the other: the numbers that stand there, their bytes, and whether each fits its place. Nothing of a block's type is known here.
 use Rattle.std.specs.Prelude.{Bool, true, false, ◌&&◌, List, [], ◌∷◌, ◌++◌, ℕ, ◌+◌, ◌-◌, ◌^◌, ltb, length, replicate}
-use Rattle.wire.specs.Numbers.{bigAt, bigBytes}
+use Rattle.wire.specs.Numbers.{big_at, big_bytes}
 
 -- the bytes that fields of these widths take
 unfoldable pub sum : List ℕ → ℕ
@@ -10,13 +10,13 @@ sum (w ∷ ws) = w + sum ws
 -- the numbers in the fields from a place on
 unfoldable pub fields_at : List ℕ → List ℕ → ℕ → List ℕ
 fields_at [] s o = []
-fields_at (w ∷ ws) s o = bigAt w s o ∷ fields_at ws s (o + w)
+fields_at (w ∷ ws) s o = big_at w s o ∷ fields_at ws s (o + w)
 
 -- the bytes of a number for each field
-unfoldable pub fieldBytes : List ℕ → List ℕ → List ℕ
-fieldBytes [] vs = []
-fieldBytes (w ∷ ws) [] = []
-fieldBytes (w ∷ ws) (v ∷ vs) = bigBytes w v ++ fieldBytes ws vs
+unfoldable pub field_bytes : List ℕ → List ℕ → List ℕ
+field_bytes [] vs = []
+field_bytes (w ∷ ws) [] = []
+field_bytes (w ∷ ws) (v ∷ vs) = big_bytes w v ++ field_bytes ws vs
 
 -- there is a number for each field, and it fits the field's bytes; numbers beyond the fields are not looked at
 unfoldable pub fits : List ℕ → List ℕ → Bool

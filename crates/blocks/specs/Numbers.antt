@@ -6,30 +6,30 @@ use Rattle.blocks.specs.declared.Extent.TheVariants as End
 use Rattle.blocks.specs.declared.Read.{Read}
 use Rattle.blocks.specs.declared.Written.{Written}
 use Rattle.blocks.specs.Layout.{eight}
-use Rattle.blocks.specs.Names.{followOnFields, followOnNumber, followOnLast, followOnId}
-use Rattle.blocks.specs.Writing.{writing, roomAfter}
+use Rattle.blocks.specs.Names.{follow_on_fields, follow_on_number, follow_on_last, follow_on_id}
+use Rattle.blocks.specs.Writing.{writing, room_after}
 
 -- a block's fields as they are passed
-unfoldable pub asNumbers : ℕ → List ℕ → List ℕ
-asNumbers kind f = cond (eqb kind 5) (eight (followOnNumber f ∷ cond (followOnLast f) 1 0 ∷ followOnId f ∷ [])) f
+unfoldable pub as_numbers : ℕ → List ℕ → List ℕ
+as_numbers kind f = cond (eqb kind 5) (eight (follow_on_number f ∷ cond (follow_on_last f) 1 0 ∷ follow_on_id f ∷ [])) f
 
 -- the fields of the eight numbers that are passed; a follow-on's number above 127 is taken as 128, which has no byte, and of its mark counts whether it is 0
-unfoldable pub asFields : ℕ → List ℕ → List ℕ
-asFields kind v = cond (eqb kind 5) (followOnFields (min (get_or v 0 0) 128) (not (eqb (get_or v 1 0) 0)) (get_or v 2 0)) v
+unfoldable pub as_fields : ℕ → List ℕ → List ℕ
+as_fields kind v = cond (eqb kind 5) (follow_on_fields (min (get_or v 0 0) 128) (not (eqb (get_or v 1 0) 0)) (get_or v 2 0)) v
 
 -- the twelve numbers that were lent, after a block was read; refused, they stay
-abbrev pub blockNumbers : Extent → List ℕ → Part → List ℕ → List ℕ
-blockNumbers (End.Ends kind size next) fields bytes out = kind ∷ size ∷ bytes.start ∷ bytes.len ∷ asNumbers kind fields
-blockNumbers (End.Refused number place) fields bytes out = out
+abbrev pub block_numbers : Extent → List ℕ → Part → List ℕ → List ℕ
+block_numbers (End.Ends kind size next) fields bytes out = kind ∷ size ∷ bytes.start ∷ bytes.len ∷ as_numbers kind fields
+block_numbers (End.Refused number place) fields bytes out = out
 
 -- the same of a reading
-abbrev pub readNumbers : Read → List ℕ → List ℕ
-readNumbers r out = blockNumbers r.extent r.fields r.bytes out
+abbrev pub read_numbers : Read → List ℕ → List ℕ
+read_numbers r out = block_numbers r.extent r.fields r.bytes out
 
 -- what writing a block by its numbers answers
-unfoldable pub writingBy : ℕ → List ℕ → List ℕ → ℕ → Written
-writingBy kind v bytes room = writing kind (asFields kind v) bytes room
+unfoldable pub writing_by : ℕ → List ℕ → List ℕ → ℕ → Written
+writing_by kind v bytes room = writing kind (as_fields kind v) bytes room
 
 -- and the room afterwards
-unfoldable pub roomBy : ℕ → List ℕ → List ℕ → List ℕ → List ℕ
-roomBy kind v bytes room = roomAfter kind (asFields kind v) bytes room
+unfoldable pub room_by : ℕ → List ℕ → List ℕ → List ℕ → List ℕ
+room_by kind v bytes room = room_after kind (as_fields kind v) bytes room

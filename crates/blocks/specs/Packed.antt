@@ -3,7 +3,7 @@ use Rattle.std.specs.Prelude.{cond, List, [], ◌∷◌, ℕ, zero, suc, ◌+◌
 use Rattle.blocks.specs.declared.After.{After}
 use Rattle.blocks.specs.declared.After.TheVariants.{Nothing, Any, Some, Pairs, Ip}
 use Rattle.blocks.specs.Layout.{eight}
-use Rattle.blocks.specs.Table.{widths, afterFields, typed, fieldLength}
+use Rattle.blocks.specs.Table.{widths, after_fields, typed, field_length}
 
 -- a digit for what follows
 abbrev pub digit : After → ℕ
@@ -19,8 +19,8 @@ packed [] top = top
 packed (w ∷ ws) top = w + 16 * packed ws top
 
 -- a row from the right: eight widths, what follows (and 8 where the first field is a message's type), the bytes of all fields
-unfoldable pub rowNumber : ℕ → ℕ
-rowNumber k = packed (eight (widths k)) (digit (afterFields k) + cond (typed k) 8 0 + 16 * fieldLength k)
+unfoldable pub row_number : ℕ → ℕ
+row_number k = packed (eight (widths k)) (digit (after_fields k) + cond (typed k) 8 0 + 16 * field_length k)
 
 -- a digit as a width
 unfoldable pub width_of : ℕ → ℕ

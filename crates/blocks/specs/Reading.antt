@@ -5,8 +5,8 @@ use Rattle.blocks.specs.declared.Extent.{Extent}
 use Rattle.blocks.specs.declared.Extent.TheVariants as End
 use Rattle.blocks.specs.declared.Read.{Read}
 use Rattle.blocks.specs.Layout.{fields_at, eight}
-use Rattle.blocks.specs.Table.{widths, afterFields, fieldLength, carries}
-use Rattle.blocks.specs.Extent.{extentAt}
+use Rattle.blocks.specs.Table.{widths, after_fields, field_length, carries}
+use Rattle.blocks.specs.Extent.{extent_at}
 
 -- so many bytes from a place on
 abbrev pub bytes_at : ℕ → ℕ → Part
@@ -17,18 +17,18 @@ abbrev pub block_read : ℕ → ℕ → ℕ → List ℕ → Part → Read
 block_read kind size next fields bytes = record { extent = End.Ends kind size next; fields = fields; bytes = bytes }
 
 -- or a refusal, at the block's type byte
-abbrev pub readRefused : ℕ → ℕ → Read
-readRefused number place = record { extent = End.Refused number place; fields = eight []; bytes = bytes_at 0 0 }
+abbrev pub read_refused : ℕ → ℕ → Read
+read_refused number place = record { extent = End.Refused number place; fields = eight []; bytes = bytes_at 0 0 }
 
 -- of a body of n bytes at a place, those after its fields; none where none follow
-unfoldable pub bytesAfter : ℕ → ℕ → ℕ → Part
-bytesAfter kind o n = cond (carries (afterFields kind)) (bytes_at (o + fieldLength kind) (n - fieldLength kind)) (bytes_at 0 0)
+unfoldable pub bytes_after : ℕ → ℕ → ℕ → Part
+bytes_after kind o n = cond (carries (after_fields kind)) (bytes_at (o + field_length kind) (n - field_length kind)) (bytes_at 0 0)
 
 -- a block that has an end is read; a refusal stays the refusal
 abbrev pub reading : List ℕ → ℕ → Extent → Read
-reading s at (End.Ends kind size next) = block_read kind size next (eight (fields_at (widths kind) s (at + 3))) (bytesAfter kind (at + 3) (next - (at + 3)))
-reading s at (End.Refused number place) = readRefused number place
+reading s at (End.Ends kind size next) = block_read kind size next (eight (fields_at (widths kind) s (at + 3))) (bytes_after kind (at + 3) (next - (at + 3)))
+reading s at (End.Refused number place) = read_refused number place
 
 -- the block at a place, or the refusal
-unfoldable pub readAt : List ℕ → ℕ → Read
-readAt s at = reading s at (extentAt s at)
+unfoldable pub read_at : List ℕ → ℕ → Read
+read_at s at = reading s at (extent_at s at)

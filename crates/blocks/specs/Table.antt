@@ -16,8 +16,8 @@ abbrev row : ℕ → List ℕ → After → Row
 row k ws a = record { kind = k; widths = ws; after = a; typed = false }
 
 -- a row of a message's type, id and expiration
-abbrev messageRow : ℕ → After → Row
-messageRow k a = record { kind = k; widths = 1 ∷ 4 ∷ 4 ∷ []; after = a; typed = true }
+abbrev message_row : ℕ → After → Row
+message_row k a = record { kind = k; widths = 1 ∷ 4 ∷ 4 ∷ []; after = a; typed = true }
 
 -- the rows, with the names of the fields
 abbrev pub bodies : List Row
@@ -29,9 +29,9 @@ bodies =
     -- RouterInfo: flag, frag; bytes
     ∷ row 2 (1 ∷ 1 ∷ []) Some
     -- I2NP: type, id, expiration; bytes
-    ∷ messageRow 3 Any
+    ∷ message_row 3 Any
     -- FirstFragment: type, id, expiration; bytes
-    ∷ messageRow 4 Some
+    ∷ message_row 4 Some
     -- FollowOnFragment: number * 2 + last, id; bytes
     ∷ row 5 (1 ∷ 4 ∷ []) Some
     -- Termination: count, reason
@@ -68,16 +68,16 @@ unfoldable pub widths : ℕ → List ℕ
 widths k = (look bodies k).widths
 
 -- what follows them
-unfoldable pub afterFields : ℕ → After
-afterFields k = (look bodies k).after
+unfoldable pub after_fields : ℕ → After
+after_fields k = (look bodies k).after
 
 -- whether the first of them is the type of an I2NP message
 unfoldable pub typed : ℕ → Bool
 typed k = (look bodies k).typed
 
 -- the bytes of a type's fields
-unfoldable pub fieldLength : ℕ → ℕ
-fieldLength k = sum (widths k)
+unfoldable pub field_length : ℕ → ℕ
+field_length k = sum (widths k)
 
 -- whether bytes follow
 abbrev pub carries : After → Bool

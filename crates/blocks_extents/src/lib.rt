@@ -1,7 +1,7 @@
 // Where a block ends: the tests of a body, by family, and their refusals.
 ghost use Rattle.std.specs.Prelude.{◌≡◌, ◌+◌, ◌<◌, ◌≤◌, length};
-ghost use Rattle.blocks.specs.Packed.{rowNumber};
-ghost use Rattle.blocks.specs.Extent.{isI2npType, at_least, pairBytesIn, takesBytes, routerInfo, i2np, firstFragment, followOn, address, ignoresSize, plainLength, takenAt, extentAt};
+ghost use Rattle.blocks.specs.Packed.{row_number};
+ghost use Rattle.blocks.specs.Extent.{is_i2np_type, at_least, pair_bytes_in, takes_bytes, router_info, i2np, first_fragment, follow_on, address, ignores_size, plain_length, taken_at, extent_at};
 
 use blocks::{Extent, Taken};
 use blocks_rows::{carries_bytes, length_of, row_of};
@@ -10,14 +10,14 @@ use wire_numbers::be_u16;
 
 // Whether a number is the type of an I2NP message.
 pub fn is_listed(x: u64) -> bool
-    ensures { result ≡ isI2npType x }
+    ensures { result ≡ is_i2np_type x }
 {
     ((1 <= x) & (x <= 3)) | ((10 <= x) & (x <= 11)) | ((18 <= x) & (x <= 26))
 }
 
 // A body of `need` bytes, if as many are there; else 1.
 fn takes_bytes(need: usize, there: usize) -> Taken
-    ensures { result ≡ takesBytes need there }
+    ensures { result ≡ takes_bytes need there }
 {
     if need <= there {
         return Taken::Bytes { count: need };
@@ -36,7 +36,7 @@ pub fn at_least(fields: usize, size: usize) -> usize
 }
 
 fn router_info(size: usize, there: usize) -> Taken
-    ensures { result ≡ routerInfo size there }
+    ensures { result ≡ router_info size there }
 {
     if size <= 2 {
         return Taken::Refused { number: 2 };
@@ -64,7 +64,7 @@ fn i2np(payload: &[u8], body: usize, size: usize) -> Taken
 
 fn first_fragment(payload: &[u8], body: usize, size: usize) -> Taken
     requires { body ≤ length payload.now }
-    ensures { result ≡ firstFragment payload.now body size }
+    ensures { result ≡ first_fragment payload.now body size }
 {
     let there = payload.len() - body;
     if there < 9 {
@@ -83,7 +83,7 @@ fn first_fragment(payload: &[u8], body: usize, size: usize) -> Taken
 }
 
 fn follow_on(size: usize, there: usize) -> Taken
-    ensures { result ≡ followOn size there }
+    ensures { result ≡ follow_on size there }
 {
     if there < 5 {
         return Taken::Refused { number: 1 };
@@ -100,7 +100,7 @@ fn follow_on(size: usize, there: usize) -> Taken
 // The bytes of an Ack's pairs: those above five if they are even, else none.
 fn pair_bytes_in(size: usize) -> usize
     requires { size < 65536 }
-    ensures { (result ≡ pairBytesIn size) × (result < 65536) }
+    ensures { (result ≡ pair_bytes_in size) × (result < 65536) }
 {
     if size <= 5 {
         return 0;
@@ -128,15 +128,15 @@ fn address(size: usize, there: usize) -> Taken
 
 // Whether a type reads its fields whatever the size says.
 fn ignores_size(kind: u8, row: u64) -> bool
-    requires { row ≡ rowNumber kind }
-    ensures { result ≡ ignoresSize kind }
+    requires { row ≡ row_number kind }
+    ensures { result ≡ ignores_size kind }
 {
     !(carries_bytes(kind, row) | ((kind == 1) | (kind == 6)))
 }
 
 // What a body takes that its size alone does not refuse.
 fn plain_length(kind: u8, size: usize) -> usize
-    ensures { result ≡ plainLength kind size }
+    ensures { result ≡ plain_length kind size }
 {
     let row = row_of(kind);
     let fields = length_of(kind, row);
@@ -149,7 +149,7 @@ fn plain_length(kind: u8, size: usize) -> usize
 // The bytes that the body at a place takes.
 fn taken_at(payload: &[u8], body: usize, kind: u8, size: usize) -> Taken
     requires { (body ≤ length payload.now) × (size < 65536) }
-    ensures { result ≡ takenAt payload.now body kind size }
+    ensures { result ≡ taken_at payload.now body kind size }
 {
     let there = payload.len() - body;
     match kind {
@@ -165,7 +165,7 @@ fn taken_at(payload: &[u8], body: usize, kind: u8, size: usize) -> Taken
 
 // The type and size of the block at a place, and where it ends.
 pub fn extent_of(payload: &[u8], at: usize) -> Extent
-    ensures { result ≡ extentAt payload.now at }
+    ensures { result ≡ extent_at payload.now at }
 {
     if payload.len() < 3 {
         return Extent::Refused {

@@ -14,13 +14,13 @@ use Rattle.blocks.specs.declared.Extent.TheVariants as End
 use Rattle.blocks_listing.specs.declared.Entry.{Entry}
 use Rattle.blocks_listing.specs.declared.Step.{Step}
 use Rattle.blocks_listing.specs.declared.Answer.{Answer}
-use Rattle.blocks.specs.Extent.{kind_at, size_at, extentAt}
-use Rattle.blocks.specs.Sound.{bodyLength}
-use Rattle.blocks_listing.specs.Listing.{Listing, ok, no, entry, cons, onward, blocks_from, blocksOf, limited, listing, counts, refusedListing, listingAnswer, entriesAfter, stepOver, staysAt, stepAt, entriesFrom}
+use Rattle.blocks.specs.Extent.{kind_at, size_at, extent_at}
+use Rattle.blocks.specs.Sound.{body_length}
+use Rattle.blocks_listing.specs.Listing.{Listing, ok, no, entry, cons, onward, blocks_from, blocks_of, limited, listing, counts, refused_listing, listing_answer, entries_after, step_over, stays_at, step_at, entries_from}
 use Rattle.blocks.proofs.Ends.{bounded}
 
 -- what counting knows of the reader
-pub goes_on : (s : List ℕ) (at k z next : ℕ) → extentAt s at ≡ End.Ends k z next → (at + 3 ≤ next) × (next ≤ length s)
+pub goes_on : (s : List ℕ) (at k z next : ℕ) → extent_at s at ≡ End.Ends k z next → (at + 3 ≤ next) × (next ≤ length s)
 goes_on s at k z next e = let b = bounded s at k z next e in (omega (arith, b.fields), b.inside)
 
 -- steps beyond the bytes that are left change nothing
@@ -28,7 +28,7 @@ enough : (f g : ℕ) (s : List ℕ) (at : ℕ) → at < length s → length s - 
 unfolding blocks_from
 enough zero g s at h hf hg = absurd (omega arith)
 enough (suc f) zero s at h hf hg = absurd (omega arith)
-enough (suc f) (suc g) s at h hf hg = go (λ next i j. enough f g s next j (omega arith) (omega arith)) (extentAt s at) refl
+enough (suc f) (suc g) s at h hf hg = go (λ next i j. enough f g s next j (omega arith) (omega arith)) (extent_at s at) refl
   where
     Rest : Type 0
     Rest = (next : ℕ) → at + 3 ≤ next → next < length s → blocks_from f s next ≡ blocks_from g s next
@@ -37,7 +37,7 @@ enough (suc f) (suc g) s at h hf hg = go (λ next i j. enough f g s next j (omeg
     tail same next i true q = same next i (ltb-true next (length s) q)
     tail same next i false q = refl
 
-    go : Rest → (e : Extent) → extentAt s at ≡ e → onward s at (blocks_from f s) e ≡ onward s at (blocks_from g s) e
+    go : Rest → (e : Extent) → extent_at s at ≡ e → onward s at (blocks_from f s) e ≡ onward s at (blocks_from g s) e
     go same (End.Ends k z next) q = ap (cons (entry at k z)) (tail same next (goes_on s at k z next q).0 (ltb next (length s)) refl)
     go same (End.Refused m p) q = refl
 
@@ -45,19 +45,19 @@ enough (suc f) (suc g) s at h hf hg = go (λ next i j. enough f g s next j (omeg
 abbrev pub rest : List ℕ → ℕ → Listing
 rest s at = cond (ltb at (length s)) (blocks_from (length s - at) s at) (ok [])
 
-pub at-end : (s : List ℕ) (at : ℕ) → length s ≤ at → rest s at ≡ ok []
-at-end s at h = rw (le-ltb at (length s) h)
+pub at_end : (s : List ℕ) (at : ℕ) → length s ≤ at → rest s at ≡ ok []
+at_end s at h = rw (le-ltb at (length s) h)
 
-pub at-start : (s : List ℕ) → 0 < length s → rest s 0 ≡ blocksOf s
-unfolding blocksOf
-at-start s h = rw (lt-ltb 0 (length s) h, sub-zero)
+pub at_start : (s : List ℕ) → 0 < length s → rest s 0 ≡ blocks_of s
+unfolding blocks_of
+at_start s h = rw (lt-ltb 0 (length s) h, sub-zero)
 
 module _ (s : List ℕ) (at : ℕ) (inside : at < length s) where
-  one : blocks_from (length s - at) s at ≡ onward s at (blocks_from (length s - at - 1) s) (extentAt s at)
+  one : blocks_from (length s - at) s at ≡ onward s at (blocks_from (length s - at - 1) s) (extent_at s at)
   unfolding blocks_from
   one = let e : length s - at ≡ suc (length s - at - 1) = omega arith in ap (λ (f : ℕ). blocks_from f s at) e
 
-  pub turns : (k z next : ℕ) → extentAt s at ≡ End.Ends k z next → rest s at ≡ cons (entry at k z) (rest s next)
+  pub turns : (k z next : ℕ) → extent_at s at ≡ End.Ends k z next → rest s at ≡ cons (entry at k z) (rest s next)
   turns k z next e =
       let h = goes_on s at k z next e in
       rw (lt-ltb at (length s) inside) (one ∙ ap (onward s at (blocks_from (length s - at - 1) s)) e ∙ ap (cons (entry at k z)) (tail h (ltb next (length s)) refl))
@@ -66,30 +66,30 @@ module _ (s : List ℕ) (at : ℕ) (inside : at < length s) where
       tail h true q = enough (length s - at - 1) (length s - next) s next (ltb-true next (length s) q) (omega (arith, h.0)) (omega arith)
       tail h false q = refl
 
-  pub refuses : (m p : ℕ) → extentAt s at ≡ End.Refused m p → rest s at ≡ no m p
+  pub refuses : (m p : ℕ) → extent_at s at ≡ End.Refused m p → rest s at ≡ no m p
   refuses m p e = rw (lt-ltb at (length s) inside) (one ∙ ap (onward s at (blocks_from (length s - at - 1) s)) e)
 
 -- ---- counting
 
 -- the answer where n blocks are counted already; `over` is the place of the first that has no record, once it was met
-abbrev pub answerFrom : ℕ → ℕ → ℕ → Listing → Answer
-answerFrom c n over (ok es) = cond (leb (n + length es) c) (counts (n + length es)) (refusedListing 10 (cond (ltb c n) over (get_or es (c - n) (entry 0 0 0)).place))
-answerFrom c n over (no m p) = refusedListing m p
+abbrev pub answer_from : ℕ → ℕ → ℕ → Listing → Answer
+answer_from c n over (ok es) = cond (leb (n + length es) c) (counts (n + length es)) (refused_listing 10 (cond (ltb c n) over (get_or es (c - n) (entry 0 0 0)).place))
+answer_from c n over (no m p) = refused_listing m p
 
-pub none_yet : (c : ℕ) (l : Listing) → answerFrom c 0 0 l ≡ listingAnswer (limited c l)
+pub none_yet : (c : ℕ) (l : Listing) → answer_from c 0 0 l ≡ listing_answer (limited c l)
 none_yet c (ok es) = rw (zero-add, le-ltb c 0 (omega arith), sub-zero) (go (leb (length es) c))
   where
-    go : (b : Bool) → cond b (counts (length es)) (refusedListing 10 (get_or es c (entry 0 0 0)).place) ≡ listingAnswer (cond b (ok es) (no 10 (get_or es c (entry 0 0 0)).place))
+    go : (b : Bool) → cond b (counts (length es)) (refused_listing 10 (get_or es c (entry 0 0 0)).place) ≡ listing_answer (cond b (ok es) (no 10 (get_or es c (entry 0 0 0)).place))
     go true = refl
     go false = refl
 none_yet c (no m p) = refl
 
 -- one block more
-pub one_more : (c n over : ℕ) (e : Entry) (l : Listing) → answerFrom c n over (cons e l) ≡ answerFrom c (n + 1) (cond (eqb n c) e.place over) l
+pub one_more : (c n over : ℕ) (e : Entry) (l : Listing) → answer_from c n over (cons e l) ≡ answer_from c (n + 1) (cond (eqb n c) e.place over) l
 one_more c n over e (no m p) = refl
 one_more c n over e (ok es) =
     let q : n + suc (length es) ≡ n + 1 + length es = omega arith in
-    rw q (ap (λ (z : ℕ). cond (leb (n + 1 + length es) c) (counts (n + 1 + length es)) (refusedListing 10 z)) (by (ltb n c) (eqb n c) refl refl))
+    rw q (ap (λ (z : ℕ). cond (leb (n + 1 + length es) c) (counts (n + 1 + length es)) (refused_listing 10 z)) (by (ltb n c) (eqb n c) refl refl))
   where
     by : (a b : Bool) → ltb n c ≡ a → eqb n c ≡ b → cond (ltb c n) over (get_or (e ∷ es) (c - n) (entry 0 0 0)).place ≡ cond (ltb c (n + 1)) (cond (eqb n c) e.place over) (get_or es (c - (n + 1)) (entry 0 0 0)).place
     by true b g _ =
@@ -105,57 +105,57 @@ one_more c n over e (ok es) =
         let d : c < n = omega (arith, eqb-false n c q) in
         rw (lt-ltb c n d, lt-ltb c (n + 1) (omega arith), q)
 
-pub no-more-over : (c n over : ℕ) → c < n → answerFrom c n over (ok []) ≡ refusedListing 10 over
-no-more-over c n over h = rw (lt-leb (n + 0) c (omega arith), lt-ltb c n h)
+pub no_more_over : (c n over : ℕ) → c < n → answer_from c n over (ok []) ≡ refused_listing 10 over
+no_more_over c n over h = rw (lt-leb (n + 0) c (omega arith), lt-ltb c n h)
 
-pub no_more : (c n over : ℕ) → n ≤ c → answerFrom c n over (ok []) ≡ counts n
+pub no_more : (c n over : ℕ) → n ≤ c → answer_from c n over (ok []) ≡ counts n
 no_more c n over h = rw (le-leb (n + 0) c (omega arith)) (ap counts (omega arith))
 
 -- the empty payload
-pub nothing : (c : ℕ) (s : List ℕ) → length s ≡ 0 → refusedListing 1 0 ≡ listingAnswer (listing c s)
-unfolding listing blocksOf blocks_from
-nothing c s h = sym (ap (λ (f : ℕ). listingAnswer (limited c (blocks_from f s 0))) h)
+pub nothing : (c : ℕ) (s : List ℕ) → length s ≡ 0 → refused_listing 1 0 ≡ listing_answer (listing c s)
+unfolding listing blocks_of blocks_from
+nothing c s h = sym (ap (λ (f : ℕ). listing_answer (limited c (blocks_from f s 0))) h)
 
 -- ---- filling
 
 -- the step over a block that was read is to its end
-steps : (s : List ℕ) (at k z next : ℕ) → extentAt s at ≡ End.Ends k z next → stepAt s at ≡ record { entry = entry at k z; next = next }
-unfolding stepAt
+steps : (s : List ℕ) (at k z next : ℕ) → extent_at s at ≡ End.Ends k z next → step_at s at ≡ record { entry = entry at k z; next = next }
+unfolding step_at
 steps s at k z next e =
     let b = bounded s at k z next e in
-    let n : at + 3 + bodyLength (kind_at s at) (size_at s at) ≡ next = ap (λ (j : ℕ). at + 3 + bodyLength j (size_at s at)) b.is-kind ∙ ap (λ (j : ℕ). at + 3 + bodyLength k j) b.is-size ∙ sym b.length-is in
-    rw (le-leb (at + 3 + bodyLength (kind_at s at) (size_at s at)) (length s) (omega (arith, n, b.inside))) (ap (λ (j : ℕ). record { entry = entry at (kind_at s at) (size_at s at); next = j }) n ∙ ap (λ (j : ℕ). record { entry = entry at j (size_at s at); next = next }) b.is-kind ∙ ap (λ (j : ℕ). record { entry = entry at k j; next = next }) b.is-size)
+    let n : at + 3 + body_length (kind_at s at) (size_at s at) ≡ next = ap (λ (j : ℕ). at + 3 + body_length j (size_at s at)) b.is_kind ∙ ap (λ (j : ℕ). at + 3 + body_length k j) b.is_size ∙ sym b.length_is in
+    rw (le-leb (at + 3 + body_length (kind_at s at) (size_at s at)) (length s) (omega (arith, n, b.inside))) (ap (λ (j : ℕ). record { entry = entry at (kind_at s at) (size_at s at); next = j }) n ∙ ap (λ (j : ℕ). record { entry = entry at j (size_at s at); next = next }) b.is_kind ∙ ap (λ (j : ℕ). record { entry = entry at k j; next = next }) b.is_size)
 
 -- a step as the code finds it
-pub no_step : (s : List ℕ) (at : ℕ) → length s < at + 3 + bodyLength (kind_at s at) (size_at s at) → staysAt at ≡ stepAt s at
-unfolding stepAt
-no_step s at h = rw (lt-leb (at + 3 + bodyLength (kind_at s at) (size_at s at)) (length s) h)
+pub no_step : (s : List ℕ) (at : ℕ) → length s < at + 3 + body_length (kind_at s at) (size_at s at) → stays_at at ≡ step_at s at
+unfolding step_at
+no_step s at h = rw (lt-leb (at + 3 + body_length (kind_at s at) (size_at s at)) (length s) h)
 
-pub step-over : (s : List ℕ) (at z n : ℕ) → z ≡ size_at s at → n ≡ bodyLength (kind_at s at) (size_at s at) → at + 3 + n ≤ length s → record { entry = entry at (kind_at s at) z; next = at + 3 + n } ≡ stepAt s at
-unfolding stepAt
-step-over s at z n e q h = rw (e, le-leb (at + 3 + bodyLength (kind_at s at) (size_at s at)) (length s) (omega (arith, q))) (ap (stepOver s at) q)
+pub step_over_lem : (s : List ℕ) (at z n : ℕ) → z ≡ size_at s at → n ≡ body_length (kind_at s at) (size_at s at) → at + 3 + n ≤ length s → record { entry = entry at (kind_at s at) z; next = at + 3 + n } ≡ step_at s at
+unfolding step_at
+step_over_lem s at z n e q h = rw (e, le-leb (at + 3 + body_length (kind_at s at) (size_at s at)) (length s) (omega (arith, q))) (ap (step_over s at) q)
 
 -- where there is a listing, its records are those
-pub listed : (f : ℕ) (s : List ℕ) (at : ℕ) (es : List Entry) → blocks_from f s at ≡ ok es → entriesFrom (length es) s at ≡ es
+pub listed : (f : ℕ) (s : List ℕ) (at : ℕ) (es : List Entry) → blocks_from f s at ≡ ok es → entries_from (length es) s at ≡ es
 unfolding blocks_from
 listed zero s at es e = let z : ◌≡◌ {A = ℕ} 0 1 = cc in absurd (omega arith)
-listed (suc f) s at es e = go (λ next fs g. listed f s next fs g) (extentAt s at) refl e
+listed (suc f) s at es e = go (λ next fs g. listed f s next fs g) (extent_at s at) refl e
   where
     Rest : Type 0
-    Rest = (next : ℕ) (fs : List Entry) → blocks_from f s next ≡ ok fs → entriesFrom (length fs) s next ≡ fs
+    Rest = (next : ℕ) (fs : List Entry) → blocks_from f s next ≡ ok fs → entries_from (length fs) s next ≡ fs
 
-    more : (k z next : ℕ) → stepAt s at ≡ record { entry = entry at k z; next = next } → (l : Listing) → ((fs : List Entry) → l ≡ ok fs → entriesFrom (length fs) s next ≡ fs) → cons (entry at k z) l ≡ ok es → entriesFrom (length es) s at ≡ es
+    more : (k z next : ℕ) → step_at s at ≡ record { entry = entry at k z; next = next } → (l : Listing) → ((fs : List Entry) → l ≡ ok fs → entries_from (length fs) s next ≡ fs) → cons (entry at k z) l ≡ ok es → entries_from (length es) s at ≡ es
     more k z next st (ok fs) ih g =
         let h : entry at k z ∷ fs ≡ es = cc in
-        subst (λ (l : List Entry). entriesFrom (length l) s at ≡ l) h
-        (ap (λ (t : Step). t.entry ∷ entriesFrom (length fs) s t.next) st ∙ ap (λ (l : List Entry). entry at k z ∷ l) (ih fs refl))
+        subst (λ (l : List Entry). entries_from (length l) s at ≡ l) h
+        (ap (λ (t : Step). t.entry ∷ entries_from (length fs) s t.next) st ∙ ap (λ (l : List Entry). entry at k z ∷ l) (ih fs refl))
     more k z next st (no m p) ih g = let z : ◌≡◌ {A = ℕ} 0 1 = cc in absurd (omega arith)
 
-    tail : Rest → (b : Bool) (next : ℕ) (fs : List Entry) → cond b (blocks_from f s next) (ok []) ≡ ok fs → entriesFrom (length fs) s next ≡ fs
+    tail : Rest → (b : Bool) (next : ℕ) (fs : List Entry) → cond b (blocks_from f s next) (ok []) ≡ ok fs → entries_from (length fs) s next ≡ fs
     tail ih true next fs g = ih next fs g
-    tail ih false next fs g = let h : [] ≡ fs = cc in subst (λ (l : List Entry). entriesFrom (length l) s next ≡ l) h refl
+    tail ih false next fs g = let h : [] ≡ fs = cc in subst (λ (l : List Entry). entries_from (length l) s next ≡ l) h refl
 
-    go : Rest → (x : Extent) → extentAt s at ≡ x → onward s at (blocks_from f s) x ≡ ok es → entriesFrom (length es) s at ≡ es
+    go : Rest → (x : Extent) → extent_at s at ≡ x → onward s at (blocks_from f s) x ≡ ok es → entries_from (length es) s at ≡ es
     go ih (End.Ends k z next) q g = more k z next (steps s at k z next q) (cond (ltb next (length s)) (blocks_from f s next) (ok [])) (tail ih (ltb next (length s)) next) g
     go ih (End.Refused m p) q g = let z : ◌≡◌ {A = ℕ} 0 1 = cc in absurd (omega arith)
 
@@ -169,11 +169,11 @@ within c (ok fs) es e = go (leb (length fs) c) refl e
 within c (no m p) es e = let z : ◌≡◌ {A = ℕ} 0 1 = cc in absurd (omega arith)
 
 -- as many stores as are counted, one after the other, fill the list
-pub filling : (s : List ℕ) (ys : List Entry) → ((listingAnswer (listing (length ys) s)).count ≤ length ys) × (sets ys 0 (entriesFrom (listingAnswer (listing (length ys) s)).count s 0) ≡ entriesAfter (listing (length ys) s) ys)
-unfolding listing blocksOf
+pub filling : (s : List ℕ) (ys : List Entry) → ((listing_answer (listing (length ys) s)).count ≤ length ys) × (sets ys 0 (entries_from (listing_answer (listing (length ys) s)).count s 0) ≡ entries_after (listing (length ys) s) ys)
+unfolding listing blocks_of
 filling s ys = go (limited (length ys) (blocks_from (length s) s 0)) refl
   where
-    go : (l : Listing) → limited (length ys) (blocks_from (length s) s 0) ≡ l → ((listingAnswer l).count ≤ length ys) × (sets ys 0 (entriesFrom (listingAnswer l).count s 0) ≡ entriesAfter l ys)
+    go : (l : Listing) → limited (length ys) (blocks_from (length s) s 0) ≡ l → ((listing_answer l).count ≤ length ys) × (sets ys 0 (entries_from (listing_answer l).count s 0) ≡ entries_after l ys)
     go (ok es) e =
         let h = within (length ys) (blocks_from (length s) s 0) es e in
         let r = listed (length s) s 0 es h.0 in

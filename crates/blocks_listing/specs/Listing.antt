@@ -5,8 +5,8 @@ use Rattle.blocks.specs.declared.Extent.TheVariants as End
 use Rattle.blocks_listing.specs.declared.Entry.{Entry}
 use Rattle.blocks_listing.specs.declared.Step.{Step}
 use Rattle.blocks_listing.specs.declared.Answer.{Answer}
-use Rattle.blocks.specs.Extent.{kind_at, size_at, extentAt}
-use Rattle.blocks.specs.Sound.{bodyLength}
+use Rattle.blocks.specs.Extent.{kind_at, size_at, extent_at}
+use Rattle.blocks.specs.Sound.{body_length}
 
 -- what a listing gives: its records, or a refusal's number and place
 pub data Listing : Type 0 where
@@ -30,11 +30,11 @@ onward s at rest (End.Refused m p) = no m p
 -- the blocks from a place on, up to the payload's end; every block has three bytes at least, so as many steps as bytes are left are enough; with none left, an empty payload too, it is 1
 unfoldable pub blocks_from : ℕ → List ℕ → ℕ → Listing
 blocks_from zero s at = no 1 at
-blocks_from (suc steps) s at = onward s at (blocks_from steps s) (extentAt s at)
+blocks_from (suc steps) s at = onward s at (blocks_from steps s) (extent_at s at)
 
 -- the blocks of a payload: one or more
-unfoldable pub blocksOf : List ℕ → Listing
-blocksOf s = blocks_from (length s) s 0
+unfoldable pub blocks_of : List ℕ → Listing
+blocks_of s = blocks_from (length s) s 0
 
 -- 10, at the first block without a record, where the list holds fewer
 abbrev pub limited : ℕ → Listing → Listing
@@ -43,46 +43,46 @@ limited c (no m p) = no m p
 
 -- the listing of a payload into a list of so many records
 unfoldable pub listing : ℕ → List ℕ → Listing
-listing c s = limited c (blocksOf s)
+listing c s = limited c (blocks_of s)
 
 -- the answer where n blocks are listed
 abbrev pub counts : ℕ → Answer
 counts n = record { number = 0; place = 0; count = n }
 
 -- the answer where a block or the list is refused
-abbrev pub refusedListing : ℕ → ℕ → Answer
-refusedListing m p = record { number = m; place = p; count = 0 }
+abbrev pub refused_listing : ℕ → ℕ → Answer
+refused_listing m p = record { number = m; place = p; count = 0 }
 
 -- what is answered
-abbrev pub listingAnswer : Listing → Answer
-listingAnswer (ok es) = counts (length es)
-listingAnswer (no m p) = refusedListing m p
+abbrev pub listing_answer : Listing → Answer
+listing_answer (ok es) = counts (length es)
+listing_answer (no m p) = refused_listing m p
 
 -- the list lent, once it is filled: records beyond the count stay, and all of them where it is refused
-abbrev pub entriesAfter : Listing → List Entry → List Entry
-entriesAfter (ok es) l = es ++ drop (length es) l
-entriesAfter (no m p) l = l
+abbrev pub entries_after : Listing → List Entry → List Entry
+entries_after (ok es) l = es ++ drop (length es) l
+entries_after (no m p) l = l
 
 -- (From here on: how the code goes over a payload.) The refusal of a block that was not read
-abbrev pub extentRefusal : Extent → Answer
-extentRefusal (End.Refused m p) = refusedListing m p
-extentRefusal (End.Ends k z next) = counts 0
+abbrev pub extent_refusal : Extent → Answer
+extent_refusal (End.Refused m p) = refused_listing m p
+extent_refusal (End.Ends k z next) = counts 0
 
 -- where a step cannot be made
-abbrev pub staysAt : ℕ → Step
-staysAt at = record { entry = entry at 0 0; next = at }
+abbrev pub stays_at : ℕ → Step
+stays_at at = record { entry = entry at 0 0; next = at }
 
 -- the record of a block, and the place after a body of n bytes
-abbrev pub stepOver : List ℕ → ℕ → ℕ → Step
-stepOver s at n = record { entry = entry at (kind_at s at) (size_at s at); next = at + 3 + n }
+abbrev pub step_over : List ℕ → ℕ → ℕ → Step
+step_over s at n = record { entry = entry at (kind_at s at) (size_at s at); next = at + 3 + n }
 
 -- the record of the block at a place, and the place after it by type and size alone: what a listing goes by once every block was found good
-unfoldable pub stepAt : List ℕ → ℕ → Step
-stepAt s at =
-    let n = bodyLength (kind_at s at) (size_at s at) in
-    cond (leb (at + 3 + n) (length s)) (stepOver s at n) (staysAt at)
+unfoldable pub step_at : List ℕ → ℕ → Step
+step_at s at =
+    let n = body_length (kind_at s at) (size_at s at) in
+    cond (leb (at + 3 + n) (length s)) (step_over s at n) (stays_at at)
 
 -- the records of the k blocks from a place on, step by step
-abbrev pub entriesFrom : ℕ → List ℕ → ℕ → List Entry
-entriesFrom zero s at = []
-entriesFrom (suc k) s at = (stepAt s at).entry ∷ entriesFrom k s (stepAt s at).next
+abbrev pub entries_from : ℕ → List ℕ → ℕ → List Entry
+entries_from zero s at = []
+entries_from (suc k) s at = (step_at s at).entry ∷ entries_from k s (step_at s at).next

@@ -1,6 +1,6 @@
 // Listing a payload: a record for each block, in a list that the caller lends. The Rust's `parse_multiple`.
 ghost use Rattle.std.specs.Prelude.{◌≡◌, cond, length};
-ghost use Rattle.blocks_listing.specs.Listing.{extentRefusal, staysAt, stepAt, listing, listingAnswer, entriesAfter};
+ghost use Rattle.blocks_listing.specs.Listing.{extent_refusal, stays_at, step_at, listing, listing_answer, entries_after};
 
 use blocks::Extent;
 use blocks_sound::{body_length, quick_extent};
@@ -41,7 +41,7 @@ fn pick(c: bool, a: usize, b: usize) -> usize
 }
 
 fn refusal_of(extent: Extent) -> Answer
-    ensures { result ≡ extentRefusal extent }
+    ensures { result ≡ extent_refusal extent }
 {
     match extent {
         Extent::Refused { number, place } => Answer {
@@ -63,7 +63,7 @@ fn refusal_of(extent: Extent) -> Answer
 
 // How many blocks a payload has, all of them good and no more than so many; or the refusal.
 pub fn count_blocks(payload: &[u8], capacity: usize) -> Answer
-    ensures { result ≡ listingAnswer (listing capacity payload.now) }
+    ensures { result ≡ listing_answer (listing capacity payload.now) }
 {
     if payload.len() == 0 {
         return Answer {
@@ -104,7 +104,7 @@ pub fn count_blocks(payload: &[u8], capacity: usize) -> Answer
 }
 
 fn stays_at(at: usize) -> Step
-    ensures { result ≡ staysAt at }
+    ensures { result ≡ stays_at at }
 {
     Step {
         entry: Entry {
@@ -118,7 +118,7 @@ fn stays_at(at: usize) -> Step
 
 // The record of the block at a place, and the place after it by type and size alone, as for a block that was read; where that is past the end, the place itself.
 pub fn step_at(payload: &[u8], at: usize) -> Step
-    ensures { result ≡ stepAt payload.now at }
+    ensures { result ≡ step_at payload.now at }
 {
     if payload.len() < 3 {
         return stays_at(at);
@@ -144,7 +144,7 @@ pub fn step_at(payload: &[u8], at: usize) -> Step
 
 // Fills the list with a record for each block, or refuses and leaves it as it was.
 pub fn list_blocks(payload: &[u8], list: &mut [Entry]) -> Answer
-    ensures { (result ≡ listingAnswer (listing (length list.old) payload.now)) × (list.new ≡ entriesAfter (listing (length list.old) payload.now) list.old) }
+    ensures { (result ≡ listing_answer (listing (length list.old) payload.now)) × (list.new ≡ entries_after (listing (length list.old) payload.now) list.old) }
 {
     let answer = count_blocks(payload, list.len());
     let n = answer.count;

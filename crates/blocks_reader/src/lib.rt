@@ -1,9 +1,9 @@
 // Reading one block, by its row: its fields as numbers, its bytes as a part of the payload.
 ghost use Rattle.std.specs.Prelude.{◌≡◌, ◌+◌, ◌<◌, ◌≤◌, length};
 ghost use Rattle.blocks.specs.Layout.{fields_at, eight};
-ghost use Rattle.blocks.specs.Table.{widths, fieldLength};
-ghost use Rattle.blocks.specs.Packed.{rowNumber};
-ghost use Rattle.blocks.specs.Reading.{bytesAfter, readAt};
+ghost use Rattle.blocks.specs.Table.{widths, field_length};
+ghost use Rattle.blocks.specs.Packed.{row_number};
+ghost use Rattle.blocks.specs.Reading.{bytes_after, read_at};
 
 use blocks::{Extent, Part, Read};
 use blocks_extents::extent_of;
@@ -11,7 +11,7 @@ use blocks_rows::{carries_bytes, length_of, no_fields, read_fields, row_of, widt
 
 // The fields of a type's body, by its row.
 fn fields_at(payload: &[u8], body: usize, kind: u8, row: u64) -> [u64; 8]
-    requires { (body + fieldLength kind ≤ length payload.now) × (row ≡ rowNumber kind) }
+    requires { (body + field_length kind ≤ length payload.now) × (row ≡ row_number kind) }
     ensures { result ≡ eight (fields_at (widths kind) payload.now body) }
 {
     read_fields(payload, body, widths_of(kind, row))
@@ -19,8 +19,8 @@ fn fields_at(payload: &[u8], body: usize, kind: u8, row: u64) -> [u64; 8]
 
 // The bytes after them, of a body that takes so many.
 fn bytes_after(kind: u8, row: u64, body: usize, taken: usize) -> Part
-    requires { (fieldLength kind ≤ taken) × (body + taken < 18446744073709551616) × (row ≡ rowNumber kind) }
-    ensures { result ≡ bytesAfter kind body taken }
+    requires { (field_length kind ≤ taken) × (body + taken < 18446744073709551616) × (row ≡ row_number kind) }
+    ensures { result ≡ bytes_after kind body taken }
 {
     if carries_bytes(kind, row) {
         let n = length_of(kind, row);
@@ -34,7 +34,7 @@ fn bytes_after(kind: u8, row: u64, body: usize, taken: usize) -> Part
 
 // The block at a place of a payload.
 pub fn read_block(payload: &[u8], at: usize) -> Read
-    ensures { result ≡ readAt payload.now at }
+    ensures { result ≡ read_at payload.now at }
 {
     match extent_of(payload, at) {
         Extent::Ends { kind, size, next } => {

@@ -1,16 +1,16 @@
 // The fields of a body by its row: read, judged and put by one loop each, for every type.
 ghost use Rattle.std.specs.Prelude.{◌≡◌, [], ◌+◌, ◌^◌, ◌≤◌, length};
 ghost use Rattle.wire.specs.Parts.{splice};
-ghost use Rattle.wire.specs.Numbers.{bigAt, bigBytes};
-ghost use Rattle.blocks.specs.Layout.{sum, fields_at, fieldBytes, fits, eight};
-ghost use Rattle.blocks.specs.Table.{widths, afterFields, typed, fieldLength, carries};
-ghost use Rattle.blocks.specs.Packed.{digit, rowNumber, width_of, unpacked};
+ghost use Rattle.wire.specs.Numbers.{big_at, big_bytes};
+ghost use Rattle.blocks.specs.Layout.{sum, fields_at, field_bytes, fits, eight};
+ghost use Rattle.blocks.specs.Table.{widths, after_fields, typed, field_length, carries};
+ghost use Rattle.blocks.specs.Packed.{digit, row_number, width_of, unpacked};
 
 use wire_numbers::{be_u16, be_u32, be_u64, put_u16, put_u32, put_u64};
 
 // The row of a type, in hexadecimal digits from the right: the widths of its fields, eight at most, the first field's first; what follows them (0 nothing, 1 bytes, 2 some bytes, 3 pairs, 4 an IP; 8 more where the first field is a message's type); the bytes of all fields.
 pub fn row_of(kind: u8) -> u64
-    ensures { result ≡ rowNumber kind }
+    ensures { result ≡ row_number kind }
 {
     match kind {
         0 | 16 | 20 => 0x40_0000_0004,
@@ -31,7 +31,7 @@ pub fn row_of(kind: u8) -> u64
 
 // The widths of a type's fields, by its row.
 pub fn widths_of(kind: u8, row: u64) -> u32
-    requires { row ≡ rowNumber kind }
+    requires { row ≡ row_number kind }
     ensures { unpacked 8 result ≡ widths kind }
 {
     (row % 4294967296) as u32
@@ -39,23 +39,23 @@ pub fn widths_of(kind: u8, row: u64) -> u32
 
 // What follows them.
 pub fn after_of(kind: u8, row: u64) -> u64
-    requires { row ≡ rowNumber kind }
-    ensures { result ≡ digit (afterFields kind) }
+    requires { row ≡ row_number kind }
+    ensures { result ≡ digit (after_fields kind) }
 {
     row / 4294967296 % 8
 }
 
 // Whether bytes follow them.
 pub fn carries_bytes(kind: u8, row: u64) -> bool
-    requires { row ≡ rowNumber kind }
-    ensures { result ≡ carries (afterFields kind) }
+    requires { row ≡ row_number kind }
+    ensures { result ≡ carries (after_fields kind) }
 {
     after_of(kind, row) != 0
 }
 
 // Whether the first of them is the type of an I2NP message.
 pub fn is_typed(kind: u8, row: u64) -> bool
-    requires { row ≡ rowNumber kind }
+    requires { row ≡ row_number kind }
     ensures { result ≡ typed kind }
 {
     row / 34359738368 % 2 == 1
@@ -63,8 +63,8 @@ pub fn is_typed(kind: u8, row: u64) -> bool
 
 // Their bytes.
 pub fn length_of(kind: u8, row: u64) -> usize
-    requires { row ≡ rowNumber kind }
-    ensures { (result ≡ fieldLength kind) × (result ≤ 12) }
+    requires { row ≡ row_number kind }
+    ensures { (result ≡ field_length kind) × (result ≤ 12) }
 {
     (row / 68719476736) as usize
 }
@@ -84,7 +84,7 @@ fn width_of(digit: u32) -> usize
 // The number in a field.
 fn number_at(b: &[u8], at: usize, digit: u32) -> u64
     requires { at + width_of digit ≤ length b.now }
-    ensures { result ≡ bigAt (width_of digit) b.now at }
+    ensures { result ≡ big_at (width_of digit) b.now at }
 {
     match digit {
         1 => b[at] as u64,
@@ -124,7 +124,7 @@ fn limit_of(digit: u32) -> u64
 // A number put into its field; what the field has no byte for is cut.
 fn put_number(room: &mut [u8], at: usize, digit: u32, x: u64)
     requires { at + width_of digit ≤ length room.old }
-    ensures { room.new ≡ splice room.old at (bigBytes (width_of digit) x) }
+    ensures { room.new ≡ splice room.old at (big_bytes (width_of digit) x) }
 {
     match digit {
         1 => room[at] = (x % 256) as u8,
@@ -178,7 +178,7 @@ pub fn fit_fields(row: u32, fields: [u64; 8]) -> bool
 // The numbers of a row's fields put from a place on.
 pub fn put_fields(room: &mut [u8], body: usize, row: u32, fields: [u64; 8])
     requires { body + sum (unpacked 8 row) ≤ length room.old }
-    ensures { room.new ≡ splice room.old body (fieldBytes (unpacked 8 row) fields) }
+    ensures { room.new ≡ splice room.old body (field_bytes (unpacked 8 row) fields) }
 {
     let mut left = row;
     let mut at = body;

@@ -1,7 +1,7 @@
 // Sound bodies, which nearly all are: what one takes is known by type and size alone, and its tests are few. Bits in place of branches: a listing's cost is its branches.
 ghost use Rattle.std.specs.Prelude.{◌≡◌, ◌+◌, ◌<◌, ◌≤◌, cond, ltb, length};
-ghost use Rattle.blocks.specs.Extent.{ignoresSize, extentAt};
-ghost use Rattle.blocks.specs.Sound.{floorOf, counted, bodyLength, sound, tested};
+ghost use Rattle.blocks.specs.Extent.{ignores_size, extent_at};
+ghost use Rattle.blocks.specs.Sound.{floor_of, counted, body_length, sound, tested};
 
 use blocks::Extent;
 use blocks_extents::{at_least, extent_of, is_listed};
@@ -27,14 +27,14 @@ fn row_of(kind: u8) -> usize
 
 fn floor_of(kind: u8) -> usize
     requires { kind < 22 }
-    ensures { result ≡ floorOf kind }
+    ensures { result ≡ floor_of kind }
 {
     (row_of(kind) >> (4 * (kind as u32 % 16))) % 16
 }
 
 fn ignores_size(kind: u8) -> bool
     requires { kind < 22 }
-    ensures { result ≡ ignoresSize kind }
+    ensures { result ≡ ignores_size kind }
 {
     (DEAF >> (kind as u32)) % 2 == 1
 }
@@ -52,7 +52,7 @@ fn counted(kind: u8, size: usize) -> usize
 
 // The bytes that a sound body takes.
 pub fn body_length(kind: u8, size: u16) -> usize
-    ensures { (result ≡ bodyLength kind size) × (result < 65536) }
+    ensures { (result ≡ body_length kind size) × (result < 65536) }
 {
     if 21 < kind {
         return usize_from_u16(size);
@@ -74,7 +74,7 @@ fn is_tested(kind: u8, size: usize) -> bool
 
 // Whether a body whose bytes are there is sound.
 fn is_sound(payload: &[u8], body: usize, kind: u8, size: usize) -> bool
-    requires { body + bodyLength kind size ≤ length payload.now }
+    requires { body + body_length kind size ≤ length payload.now }
     ensures { result ≡ sound payload.now body kind size }
 {
     if (kind == 3) | (kind == 4) {
@@ -88,7 +88,7 @@ fn is_sound(payload: &[u8], body: usize, kind: u8, size: usize) -> bool
 
 // What `extent_of` says, with a sound block known at once: a listing asks this.
 pub fn quick_extent(payload: &[u8], at: usize) -> Extent
-    ensures { result ≡ extentAt payload.now at }
+    ensures { result ≡ extent_at payload.now at }
 {
     if payload.len() < 3 {
         return extent_of(payload, at);

@@ -1,10 +1,10 @@
 // Writing one block to the start of a room, by its row: its type and its fields, and its bytes as they are lent.
 ghost use Rattle.std.specs.Prelude.{◌≡◌, true, cond, [], ◌∷◌, ◌+◌, ◌≤◌, length};
 ghost use Rattle.wire.specs.Parts.{splice};
-ghost use Rattle.blocks.specs.Table.{afterFields, typed, fieldLength, carries, allowed};
-ghost use Rattle.blocks.specs.Packed.{rowNumber};
-ghost use Rattle.blocks.specs.Extent.{isI2npType};
-ghost use Rattle.blocks.specs.Writing.{carriedBytes, size_of, blockBytes, isProper, writing, roomAfter};
+ghost use Rattle.blocks.specs.Table.{after_fields, typed, field_length, carries, allowed};
+ghost use Rattle.blocks.specs.Packed.{row_number};
+ghost use Rattle.blocks.specs.Extent.{is_i2np_type};
+ghost use Rattle.blocks.specs.Writing.{carried_bytes, size_of, block_bytes, is_proper, writing, room_after};
 
 use blocks::{MESSAGE_TYPE, Written};
 use blocks_extents::is_listed;
@@ -16,8 +16,8 @@ use wire_numbers::put_u16;
 
 // Whether so many bytes may follow.
 fn is_allowed(kind: u8, row: u64, n: usize) -> bool
-    requires { row ≡ rowNumber kind }
-    ensures { result ≡ allowed (afterFields kind) n }
+    requires { row ≡ row_number kind }
+    ensures { result ≡ allowed (after_fields kind) n }
 {
     let after = after_of(kind, row);
     match after {
@@ -31,8 +31,8 @@ fn is_allowed(kind: u8, row: u64, n: usize) -> bool
 
 // A message's type is a listed one.
 fn is_known(kind: u8, row: u64, first: u64) -> bool
-    requires { row ≡ rowNumber kind }
-    ensures { result ≡ cond (typed kind) (isI2npType first) true }
+    requires { row ≡ row_number kind }
+    ensures { result ≡ cond (typed kind) (is_i2np_type first) true }
 {
     if is_typed(kind, row) {
         return is_listed(first);
@@ -42,8 +42,8 @@ fn is_known(kind: u8, row: u64, first: u64) -> bool
 
 // Whether a block can be written; else it is 32.
 fn is_proper(kind: u8, row: u64, fields: [u64; 8], n: usize) -> bool
-    requires { row ≡ rowNumber kind }
-    ensures { result ≡ isProper kind fields n }
+    requires { row ≡ row_number kind }
+    ensures { result ≡ is_proper kind fields n }
 {
     fit_fields(widths_of(kind, row), fields)
         & (is_allowed(kind, row, n) & is_known(kind, row, fields[MESSAGE_TYPE]))
@@ -51,8 +51,8 @@ fn is_proper(kind: u8, row: u64, fields: [u64; 8], n: usize) -> bool
 
 // The bytes of so many that a type carries.
 fn carried(kind: u8, row: u64, n: usize) -> usize
-    requires { row ≡ rowNumber kind }
-    ensures { (result ≡ cond (carries (afterFields kind)) n 0) × (result ≤ n) }
+    requires { row ≡ row_number kind }
+    ensures { (result ≡ cond (carries (after_fields kind)) n 0) × (result ≤ n) }
 {
     if carries_bytes(kind, row) {
         return n;
@@ -69,8 +69,8 @@ fn put_u8(room: &mut [u8], at: usize, x: u8)
 
 // The bytes after the fields.
 fn put_bytes(kind: u8, row: u64, body: &[u8], room: &mut [u8])
-    requires { (3 + size_of kind body.now ≤ length room.old) × (row ≡ rowNumber kind) }
-    ensures { room.new ≡ splice room.old (3 + fieldLength kind) (carriedBytes kind body.now) }
+    requires { (3 + size_of kind body.now ≤ length room.old) × (row ≡ row_number kind) }
+    ensures { room.new ≡ splice room.old (3 + field_length kind) (carried_bytes kind body.now) }
 {
     if carries_bytes(kind, row) {
         copy_to(room, 3 + length_of(kind, row), body);
@@ -79,8 +79,8 @@ fn put_bytes(kind: u8, row: u64, body: &[u8], room: &mut [u8])
 
 // Type, size, fields and bytes, where there is room.
 fn put_block(kind: u8, row: u64, fields: [u64; 8], body: &[u8], size: u16, room: &mut [u8])
-    requires { (size ≡ size_of kind body.now) × (3 + size ≤ length room.old) × (row ≡ rowNumber kind) }
-    ensures { room.new ≡ splice room.old 0 (blockBytes kind fields body.now) }
+    requires { (size ≡ size_of kind body.now) × (3 + size ≤ length room.old) × (row ≡ row_number kind) }
+    ensures { room.new ≡ splice room.old 0 (block_bytes kind fields body.now) }
 {
     put_u8(room, 0, kind);
     put_u16(room, 1, size);
@@ -90,7 +90,7 @@ fn put_block(kind: u8, row: u64, fields: [u64; 8], body: &[u8], size: u16, room:
 
 // Writes a block to the start of the room, with the bytes of its body as they are lent, or refuses and leaves the room as it was.
 pub fn write_block(kind: u8, fields: [u64; 8], body: &[u8], room: &mut [u8]) -> Written
-    ensures { (result ≡ writing kind fields body.now (length room.old)) × (room.new ≡ roomAfter kind fields body.now room.old) }
+    ensures { (result ≡ writing kind fields body.now (length room.old)) × (room.new ≡ room_after kind fields body.now room.old) }
 {
     let row = row_of(kind);
     if !is_proper(kind, row, fields, body.len()) {

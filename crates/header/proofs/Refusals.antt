@@ -8,56 +8,56 @@ use lib.Dec.{eqb, ltb}
 use lib.ListN.{get_or}
 use borrow.Author.Tests.{ltb-false, not-false}
 use Rattle.wire.specs.Parts.{part}
-use Rattle.wire.specs.Numbers.{bigAt}
+use Rattle.wire.specs.Numbers.{big_at}
 use Rattle.wire.proofs.Parts.{get_d_part}
-use Rattle.wire.proofs.Numbers.{bigAt-part}
+use Rattle.wire.proofs.Numbers.{big_at_part}
 use Rattle.header.specs.declared.Fields.{Fields}
-use Rattle.header.specs.Kinds.{isKeyed, isShort, isListed, isVersion, maskedLength, need_of}
-use Rattle.header.specs.Unmasking.{packetKind}
-use Rattle.header.specs.Reading.{frontRefusal}
-use Rattle.header.specs.Writing.{writeNumber}
+use Rattle.header.specs.Kinds.{is_keyed, is_short, is_listed, is_version, masked_length, need_of}
+use Rattle.header.specs.Unmasking.{packet_kind}
+use Rattle.header.specs.Reading.{front_refusal}
+use Rattle.header.specs.Writing.{write_number}
 
 -- a type that is not listed is 21, whatever stands for its version
-pub type-first : (q : List ℕ) (n : ℕ) → isListed (packetKind q) ≡ false → frontRefusal q n ≡ 21
-unfolding frontRefusal
-type-first q n e = rw e
+pub type_first : (q : List ℕ) (n : ℕ) → is_listed (packet_kind q) ≡ false → front_refusal q n ≡ 21
+unfolding front_refusal
+type_first q n e = rw e
 
 -- a nibble above 15 is 25, however short the packet
-pub nibbles-first : (f : Fields) (n : ℕ) → f.kind ≡ 2 → f.number ≡ 0 → (ltb 15 f.fragment || ltb 15 f.count) ≡ true → writeNumber f n ≡ 25
-unfolding writeNumber isListed
-nibbles-first f n t z e = rw (t, z, e)
+pub nibbles_first : (f : Fields) (n : ℕ) → f.kind ≡ 2 → f.number ≡ 0 → (ltb 15 f.fragment || ltb 15 f.count) ≡ true → write_number f n ≡ 25
+unfolding write_number is_listed
+nibbles_first f n t z e = rw (t, z, e)
 
 -- the first 16 bytes are enough to judge by
-pub refusal-front : (q : List ℕ) (n : ℕ) → frontRefusal (part q 0 16) n ≡ frontRefusal q n
-unfolding frontRefusal
-refusal-front q n =
-    rw (get_d_part q 0 16 12 0 (omega arith), get_d_part q 0 16 13 0 (omega arith), bigAt-part 4 q 0 16 8 (omega arith))
+pub refusal_front : (q : List ℕ) (n : ℕ) → front_refusal (part q 0 16) n ≡ front_refusal q n
+unfolding front_refusal
+refusal_front q n =
+    rw (get_d_part q 0 16 12 0 (omega arith), get_d_part q 0 16 13 0 (omega arith), big_at_part 4 q 0 16 8 (omega arith))
 
 -- what each test of reading gave, where there is no refusal
 pub record Taken (q : List ℕ) (n : ℕ) : Type 0 where
-  pub listed : isListed (packetKind q) ≡ true
-  pub versed : (not (isShort (packetKind q)) && not (isVersion (get_or q 13 0))) ≡ false
-  pub keyed : (isKeyed (packetKind q) && ltb n 64) ≡ false
-  pub numbered : (eqb (packetKind q) 2 && not (eqb (bigAt 4 q 8) 0)) ≡ false
+  pub listed : is_listed (packet_kind q) ≡ true
+  pub versed : (not (is_short (packet_kind q)) && not (is_version (get_or q 13 0))) ≡ false
+  pub keyed : (is_keyed (packet_kind q) && ltb n 64) ≡ false
+  pub numbered : (eqb (packet_kind q) 2 && not (eqb (big_at 4 q 8) 0)) ≡ false
 
-pub read_taken : (q : List ℕ) (n : ℕ) → frontRefusal q n ≡ 0 → Taken q n
-unfolding frontRefusal
+pub read_taken : (q : List ℕ) (n : ℕ) → front_refusal q n ≡ 0 → Taken q n
+unfolding front_refusal
 read_taken q n e =
-    go (not (isListed (packetKind q))) (not (isShort (packetKind q)) && not (isVersion (get_or q 13 0))) (isKeyed (packetKind q) && ltb n 64)
-    (eqb (packetKind q) 2 && not (eqb (bigAt 4 q 8) 0)) refl refl refl refl e
+    go (not (is_listed (packet_kind q))) (not (is_short (packet_kind q)) && not (is_version (get_or q 13 0))) (is_keyed (packet_kind q) && ltb n 64)
+    (eqb (packet_kind q) 2 && not (eqb (big_at 4 q 8) 0)) refl refl refl refl e
   where
-    go : (a b d g : Bool) → not (isListed (packetKind q)) ≡ a → (not (isShort (packetKind q)) && not (isVersion (get_or q 13 0))) ≡ b → (isKeyed (packetKind q) && ltb n 64) ≡ d
-        → (eqb (packetKind q) 2 && not (eqb (bigAt 4 q 8) 0)) ≡ g → ◌≡◌ {A = ℕ} (cond a 21 (cond b 22 (cond d 23 (cond g 24 0)))) 0 → Taken q n
+    go : (a b d g : Bool) → not (is_listed (packet_kind q)) ≡ a → (not (is_short (packet_kind q)) && not (is_version (get_or q 13 0))) ≡ b → (is_keyed (packet_kind q) && ltb n 64) ≡ d
+        → (eqb (packet_kind q) 2 && not (eqb (big_at 4 q 8) 0)) ≡ g → ◌≡◌ {A = ℕ} (cond a 21 (cond b 22 (cond d 23 (cond g 24 0)))) 0 → Taken q n
     go true b d g ea eb ed eg z = absurd (omega arith)
     go false true d g ea eb ed eg z = absurd (omega arith)
     go false false true g ea eb ed eg z = absurd (omega arith)
     go false false false true ea eb ed eg z = absurd (omega arith)
-    go false false false false ea eb ed eg z = record { listed = not-false (isListed (packetKind q)) ea; versed = eb; keyed = ed; numbered = eg }
+    go false false false false ea eb ed eg z = record { listed = not-false (is_listed (packet_kind q)) ea; versed = eb; keyed = ed; numbered = eg }
 
 -- not refused, a packet has room for what is to be unmasked
-pub read-room : (q : List ℕ) (n : ℕ) → 40 ≤ n → frontRefusal q n ≡ 0 → 16 + maskedLength (packetKind q) ≤ n
-unfolding maskedLength
-read-room q n h e = by (isKeyed (packetKind q)) (isShort (packetKind q)) (read_taken q n e).keyed
+pub read_room : (q : List ℕ) (n : ℕ) → 40 ≤ n → front_refusal q n ≡ 0 → 16 + masked_length (packet_kind q) ≤ n
+unfolding masked_length
+read_room q n h e = by (is_keyed (packet_kind q)) (is_short (packet_kind q)) (read_taken q n e).keyed
   where
     by : (k s : Bool) → (k && ltb n 64) ≡ false → 16 + cond k 48 (cond s 0 16) ≤ n
     by true s f = omega (arith, ltb-false n 64 f)
@@ -66,19 +66,19 @@ read-room q n h e = by (isKeyed (packetKind q)) (isShort (packetKind q)) (read_t
 
 -- what each test of writing gave, where there is no refusal
 pub record Given (f : Fields) (n : ℕ) : Type 0 where
-  pub listed : isListed f.kind ≡ true
-  pub versed : (not (isShort f.kind) && not (isVersion f.version)) ≡ false
+  pub listed : is_listed f.kind ≡ true
+  pub versed : (not (is_short f.kind) && not (is_version f.version)) ≡ false
   pub numbered : (eqb f.kind 2 && not (eqb f.number 0)) ≡ false
   pub nibbles : (eqb f.kind 2 && (ltb 15 f.fragment || ltb 15 f.count)) ≡ false
   pub room : need_of f.kind ≤ n
 
-pub write-given : (f : Fields) (n : ℕ) → writeNumber f n ≡ 0 → Given f n
-unfolding writeNumber
-write-given f n e =
-    go (not (isListed f.kind)) (not (isShort f.kind) && not (isVersion f.version)) (eqb f.kind 2 && not (eqb f.number 0))
+pub write_given : (f : Fields) (n : ℕ) → write_number f n ≡ 0 → Given f n
+unfolding write_number
+write_given f n e =
+    go (not (is_listed f.kind)) (not (is_short f.kind) && not (is_version f.version)) (eqb f.kind 2 && not (eqb f.number 0))
     (eqb f.kind 2 && (ltb 15 f.fragment || ltb 15 f.count)) (ltb n (need_of f.kind)) refl refl refl refl refl e
   where
-    go : (a b d g x : Bool) → not (isListed f.kind) ≡ a → (not (isShort f.kind) && not (isVersion f.version)) ≡ b → (eqb f.kind 2 && not (eqb f.number 0)) ≡ d
+    go : (a b d g x : Bool) → not (is_listed f.kind) ≡ a → (not (is_short f.kind) && not (is_version f.version)) ≡ b → (eqb f.kind 2 && not (eqb f.number 0)) ≡ d
         → (eqb f.kind 2 && (ltb 15 f.fragment || ltb 15 f.count)) ≡ g → ltb n (need_of f.kind) ≡ x
         → ◌≡◌ {A = ℕ} (cond a 21 (cond b 22 (cond d 24 (cond g 25 (cond x 20 0))))) 0 → Given f n
     go true b d g x ea eb ed eg ex z = absurd (omega arith)
@@ -87,15 +87,15 @@ write-given f n e =
     go false false false true x ea eb ed eg ex z = absurd (omega arith)
     go false false false false true ea eb ed eg ex z = absurd (omega arith)
     go false false false false false ea eb ed eg ex z =
-        record { listed = not-false (isListed f.kind) ea; versed = eb; numbered = ed; nibbles = eg; room = ltb-false n (need_of f.kind) ex }
+        record { listed = not-false (is_listed f.kind) ea; versed = eb; numbered = ed; nibbles = eg; room = ltb-false n (need_of f.kind) ex }
 
-pub write-room : (f : Fields) (n : ℕ) → writeNumber f n ≡ 0 → need_of f.kind ≤ n
-write-room f n e = (write-given f n e).room
+pub write_room : (f : Fields) (n : ℕ) → write_number f n ≡ 0 → need_of f.kind ≤ n
+write_room f n e = (write_given f n e).room
 
 -- what writing needs is enough for what is masked and for both nonces
-pub need-enough : (t : ℕ) → (40 ≤ need_of t) × (16 + maskedLength t + 24 ≤ need_of t)
-unfolding need_of maskedLength
-need-enough t = by (isKeyed t) (isShort t)
+pub need_enough : (t : ℕ) → (40 ≤ need_of t) × (16 + masked_length t + 24 ≤ need_of t)
+unfolding need_of masked_length
+need_enough t = by (is_keyed t) (is_short t)
   where
     by : (k s : Bool) → (40 ≤ cond k 88 (cond s 40 56)) × (16 + cond k 48 (cond s 0 16) + 24 ≤ cond k 88 (cond s 40 56))
     by true s = (omega arith, omega arith)
@@ -103,15 +103,15 @@ need-enough t = by (isKeyed t) (isShort t)
     by false false = (omega arith, omega arith)
 
 -- no more than 48 bytes are masked from 16 on
-pub long-le : (t : ℕ) → maskedLength t ≤ 48
-unfolding maskedLength
-long-le t = by (isKeyed t) (isShort t)
+pub long_le : (t : ℕ) → masked_length t ≤ 48
+unfolding masked_length
+long_le t = by (is_keyed t) (is_short t)
   where
     by : (k s : Bool) → cond k 48 (cond s 0 16) ≤ 48
     by true s = omega arith
     by false true = omega arith
     by false false = omega arith
 
-pub need-keyed : (t : ℕ) → isKeyed t ≡ true → need_of t ≡ 88
+pub need_keyed : (t : ℕ) → is_keyed t ≡ true → need_of t ≡ 88
 unfolding need_of
-need-keyed t e = rw e
+need_keyed t e = rw e

@@ -2,29 +2,29 @@
 use Rattle.std.specs.Prelude.{Bool, cond, ◌||◌, ℕ, eqb}
 
 -- SessionRequest and SessionCreated: a header of 64 bytes, the last 32 a key
-abbrev pub isKeyed : ℕ → Bool
-isKeyed t = eqb t 0 || eqb t 1
+abbrev pub is_keyed : ℕ → Bool
+is_keyed t = eqb t 0 || eqb t 1
 
 -- SessionConfirmed and Data: a header of 16 bytes
-abbrev pub isShort : ℕ → Bool
-isShort t = eqb t 2 || eqb t 6
+abbrev pub is_short : ℕ → Bool
+is_short t = eqb t 2 || eqb t 6
 
 -- PeerTest, Retry, TokenRequest and HolePunch: a header of 32 bytes
-abbrev pub isMiddle : ℕ → Bool
-isMiddle t = eqb t 7 || eqb t 9 || eqb t 10 || eqb t 11
+abbrev pub is_middle : ℕ → Bool
+is_middle t = eqb t 7 || eqb t 9 || eqb t 10 || eqb t 11
 
 -- a type that 01 lists
-unfoldable pub isListed : ℕ → Bool
-isListed t = isKeyed t || isShort t || isMiddle t
+unfoldable pub is_listed : ℕ → Bool
+is_listed t = is_keyed t || is_short t || is_middle t
 
 -- a version that 01 lists
-unfoldable pub isVersion : ℕ → Bool
-isVersion v = eqb v 2 || eqb v 3 || eqb v 4
+unfoldable pub is_version : ℕ → Bool
+is_version v = eqb v 2 || eqb v 3 || eqb v 4
 
 -- how many bytes from 16 on are masked; a type that is not listed is refused before this is asked
-unfoldable pub maskedLength : ℕ → ℕ
-maskedLength t = cond (isKeyed t) 48 (cond (isShort t) 0 16)
+unfoldable pub masked_length : ℕ → ℕ
+masked_length t = cond (is_keyed t) 48 (cond (is_short t) 0 16)
 
 -- how long a packet must be to be written, so that no nonce lies in its header
 unfoldable pub need_of : ℕ → ℕ
-need_of t = cond (isKeyed t) 88 (cond (isShort t) 40 56)
+need_of t = cond (is_keyed t) 88 (cond (is_short t) 40 56)

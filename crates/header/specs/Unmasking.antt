@@ -3,7 +3,7 @@ use Rattle.std.specs.Prelude.{List, ℕ, ◌-◌, length, get_or, replicate}
 use Rattle.wire.specs.Parts.{part}
 use Rattle.keystream.specs.Chacha.{block}
 use Rattle.keystream.specs.Mask.{masked}
-use Rattle.header.specs.Kinds.{maskedLength}
+use Rattle.header.specs.Kinds.{masked_length}
 
 -- the keystream of a key and a nonce: its first block counter is 1 (docs/DECISIONS.md says how that is known)
 unfoldable pub stream : List ℕ → List ℕ → List ℕ
@@ -23,12 +23,12 @@ front k1 k2 p = masked (masked p 0 8 (stream k1 (nonce1 p))) 8 8 (stream k2 (non
 
 -- the packet with the bytes from 16 on that its type has masked, under key 2 and a zero nonce
 unfoldable pub rest : List ℕ → ℕ → List ℕ → List ℕ
-rest k2 t p = masked p 16 (maskedLength t) (stream k2 (replicate 12 0))
+rest k2 t p = masked p 16 (masked_length t) (stream k2 (replicate 12 0))
 
 -- the type of an unmasked packet
-abbrev pub packetKind : List ℕ → ℕ
-packetKind q = get_or q 12 0
+abbrev pub packet_kind : List ℕ → ℕ
+packet_kind q = get_or q 12 0
 
 -- the whole packet unmasked
 unfoldable pub unmasked : List ℕ → List ℕ → List ℕ → List ℕ
-unmasked k1 k2 p = rest k2 (packetKind (front k1 k2 p)) (front k1 k2 p)
+unmasked k1 k2 p = rest k2 (packet_kind (front k1 k2 p)) (front k1 k2 p)

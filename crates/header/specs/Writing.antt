@@ -1,16 +1,16 @@
 -- What writing a header answers and leaves.
 use Rattle.std.specs.Prelude.{cond, ◌&&◌, ◌||◌, not, List, [], ◌∷◌, ◌++◌, ℕ, ◌+◌, ◌*◌, ◌%◌, eqb, ltb, length}
 use Rattle.wire.specs.Parts.{splice}
-use Rattle.wire.specs.Numbers.{littleBytes, bigBytes}
+use Rattle.wire.specs.Numbers.{little_bytes, big_bytes}
 use Rattle.header.specs.declared.Fields.{Fields}
-use Rattle.header.specs.Kinds.{isShort, isListed, isVersion, need_of}
+use Rattle.header.specs.Kinds.{is_short, is_listed, is_version, need_of}
 use Rattle.header.specs.Unmasking.{front, rest}
 
 -- the number that writing into n bytes gives: 21, 22, 24, 25, 20 in this order, or 0
-unfoldable pub writeNumber : Fields → ℕ → ℕ
-writeNumber f n =
-    cond (not (isListed f.kind)) 21
-    (cond (not (isShort f.kind) && not (isVersion f.version)) 22
+unfoldable pub write_number : Fields → ℕ → ℕ
+write_number f n =
+    cond (not (is_listed f.kind)) 21
+    (cond (not (is_short f.kind) && not (is_version f.version)) 22
     (cond (eqb f.kind 2 && not (eqb f.number 0)) 24
     (cond (eqb f.kind 2 && (ltb 15 f.fragment || ltb 15 f.count)) 25
     (cond (ltb n (need_of f.kind)) 20
@@ -25,28 +25,28 @@ byte13 f =
 
 -- byte 14: the network id, which the short headers do not have
 unfoldable pub byte14 : Fields → ℕ
-byte14 f = cond (isShort f.kind) 0 f.network
+byte14 f = cond (is_short f.kind) 0 f.network
 
 -- the first 16 bytes of the plain header; byte 15 is 0
-unfoldable pub frontBytes : Fields → List ℕ
-frontBytes f = littleBytes 8 f.destination ++ bigBytes 4 f.number ++ (f.kind ∷ byte13 f ∷ byte14 f ∷ 0 ∷ [])
+unfoldable pub front_bytes : Fields → List ℕ
+front_bytes f = little_bytes 8 f.destination ++ big_bytes 4 f.number ++ (f.kind ∷ byte13 f ∷ byte14 f ∷ 0 ∷ [])
 
 -- the next 16: source id and token
-unfoldable pub idBytes : Fields → List ℕ
-idBytes f = littleBytes 8 f.source ++ littleBytes 8 f.token
+unfoldable pub id_bytes : Fields → List ℕ
+id_bytes f = little_bytes 8 f.source ++ little_bytes 8 f.token
 
 -- what is written of the plain header: 16 bytes for the short ones, else 32. The key of types 0 and 1 already stands at 32, and is only masked
-unfoldable pub headerBytes : Fields → List ℕ
-headerBytes f = cond (isShort f.kind) (frontBytes f) (frontBytes f ++ idBytes f)
+unfoldable pub header_bytes : Fields → List ℕ
+header_bytes f = cond (is_short f.kind) (front_bytes f) (front_bytes f ++ id_bytes f)
 
 -- the packet with its plain header
 unfoldable pub plain : Fields → List ℕ → List ℕ
-plain f p = splice p 0 (headerBytes f)
+plain f p = splice p 0 (header_bytes f)
 
 -- the packet with its header written and masked
-unfoldable pub writtenPacket : List ℕ → List ℕ → Fields → List ℕ → List ℕ
-writtenPacket k1 k2 f p = front k1 k2 (rest k2 f.kind (plain f p))
+unfoldable pub written_packet : List ℕ → List ℕ → Fields → List ℕ → List ℕ
+written_packet k1 k2 f p = front k1 k2 (rest k2 f.kind (plain f p))
 
 -- the packet afterwards: written, or as it came
-unfoldable pub packetAfterWrite : List ℕ → List ℕ → Fields → List ℕ → List ℕ
-packetAfterWrite k1 k2 f p = cond (eqb (writeNumber f (length p)) 0) (writtenPacket k1 k2 f p) p
+unfoldable pub packet_after_write : List ℕ → List ℕ → Fields → List ℕ → List ℕ
+packet_after_write k1 k2 f p = cond (eqb (write_number f (length p)) 0) (written_packet k1 k2 f p) p

@@ -1,7 +1,7 @@
 // The three masks of a header. Both nonces are taken before anything changes: at 64 bytes they lie in the long header.
 ghost use Rattle.std.specs.Prelude.{◌≡◌, ◌+◌, ◌≤◌, length, get_or};
 ghost use Rattle.wire.specs.Parts.{part, splice};
-ghost use Rattle.header.specs.Kinds.{maskedLength};
+ghost use Rattle.header.specs.Kinds.{masked_length};
 ghost use Rattle.header.specs.Unmasking.{front, rest};
 
 use header_kinds::long_of;
@@ -43,7 +43,7 @@ pub fn front_of(pkt: &[u8], k1: &[u8; 32], k2: &[u8; 32]) -> [u8; 16]
 
 // The bytes from 16 on that a type has masked.
 fn mask_rest(pkt: &mut [u8], t: u8, k2: &[u8; 32])
-    requires { 16 + maskedLength t ≤ length pkt.old }
+    requires { 16 + masked_length t ≤ length pkt.old }
     ensures { pkt.new ≡ rest k2.now t pkt.old }
 {
     let n = long_of(t);
@@ -56,7 +56,7 @@ fn mask_rest(pkt: &mut [u8], t: u8, k2: &[u8; 32])
 
 // The unmasked front stored, and the rest unmasked.
 pub fn unmask(pkt: &mut [u8], head: [u8; 16], k2: &[u8; 32])
-    requires { (16 ≤ length pkt.old) × (16 + maskedLength (get_or head 12 0) ≤ length pkt.old) }
+    requires { (16 ≤ length pkt.old) × (16 + masked_length (get_or head 12 0) ≤ length pkt.old) }
     ensures { pkt.new ≡ rest k2.now (get_or head 12 0) (splice pkt.old 0 head) }
 {
     wire::copy_to(pkt, 0, &head);
@@ -65,7 +65,7 @@ pub fn unmask(pkt: &mut [u8], head: [u8; 16], k2: &[u8; 32])
 
 // The plain header of a packet masked, the rest of it first.
 pub fn mask(pkt: &mut [u8], t: u8, k1: &[u8; 32], k2: &[u8; 32])
-    requires { (40 ≤ length pkt.old) × (16 + maskedLength t ≤ length pkt.old) }
+    requires { (40 ≤ length pkt.old) × (16 + masked_length t ≤ length pkt.old) }
     ensures { pkt.new ≡ front k1.now k2.now (rest k2.now t pkt.old) }
 {
     mask_rest(pkt, t, k2);

@@ -2,14 +2,14 @@
 mod parts;
 
 ghost use Rattle.std.specs.Prelude.{◌≡◌, length};
-ghost use Rattle.header.specs.Reading.{headerAnswer, packetAfterRead};
-ghost use Rattle.header.specs.Writing.{writeNumber, packetAfterWrite};
+ghost use Rattle.header.specs.Reading.{header_answer, packet_after_read};
+ghost use Rattle.header.specs.Writing.{write_number, packet_after_write};
 
 use header::{Answer, Fields};
 
 // Reads a packet's header with two keys and leaves the packet unmasked; refused, it is as it came.
 pub fn read(pkt: &mut [u8], k1: &[u8; 32], k2: &[u8; 32]) -> Answer
-    ensures { (result ≡ headerAnswer k1.now k2.now pkt.old) × (pkt.new ≡ packetAfterRead k1.now k2.now pkt.old) }
+    ensures { (result ≡ header_answer k1.now k2.now pkt.old) × (pkt.new ≡ packet_after_read k1.now k2.now pkt.old) }
 {
     let n = pkt.len();
     if n < 40 {
@@ -26,7 +26,7 @@ pub fn read(pkt: &mut [u8], k1: &[u8; 32], k2: &[u8; 32]) -> Answer
 
 // Writes and masks the header of a packet whose tail is in place, and for types 0 and 1 its key; refused, the packet is as it came.
 pub fn write(f: Fields, pkt: &mut [u8], k1: &[u8; 32], k2: &[u8; 32]) -> u32
-    ensures { (result ≡ writeNumber f (length pkt.old)) × (pkt.new ≡ packetAfterWrite k1.now k2.now f pkt.old) }
+    ensures { (result ≡ write_number f (length pkt.old)) × (pkt.new ≡ packet_after_write k1.now k2.now f pkt.old) }
 {
     let refusal = header_kinds::write_refusal(f, pkt.len());
     if refusal != 0 {

@@ -1,8 +1,8 @@
 // The fields of a plain header, read and put.
 ghost use Rattle.std.specs.Prelude.{◌≡◌, [], ◌∷◌, ◌≤◌, length};
 ghost use Rattle.wire.specs.Parts.{splice};
-ghost use Rattle.header.specs.Reading.{longAt, longHeader, header_at};
-ghost use Rattle.header.specs.Writing.{byte13, byte14, frontBytes, idBytes, plain};
+ghost use Rattle.header.specs.Reading.{long_at, long_header, header_at};
+ghost use Rattle.header.specs.Writing.{byte13, byte14, front_bytes, id_bytes, plain};
 
 use header::{Fields, HeaderKind, Long};
 use header_kinds::is_short;
@@ -10,7 +10,7 @@ use header_kinds::is_short;
 // The fields of a header of 32 or 64 bytes.
 fn long_at(pkt: &[u8]) -> Long
     requires { 32 ≤ length pkt.now }
-    ensures { result ≡ longAt pkt.now }
+    ensures { result ≡ long_at pkt.now }
 {
     Long {
         destination: wire_numbers::le_u64(pkt, 0),
@@ -24,7 +24,7 @@ fn long_at(pkt: &[u8]) -> Long
 
 // A header of 32 or 64 bytes by its type.
 fn long_kind(t: u8, long: Long) -> HeaderKind
-    ensures { result ≡ longHeader t long }
+    ensures { result ≡ long_header t long }
 {
     if t == 0 {
         return HeaderKind::SessionRequest(long);
@@ -109,7 +109,7 @@ fn put_bytes(pkt: &mut [u8], kind: u8, b13: u8, b14: u8)
 // The first 16 bytes of the plain header.
 fn put_front(f: Fields, pkt: &mut [u8])
     requires { 16 ≤ length pkt.old }
-    ensures { pkt.new ≡ splice pkt.old 0 (frontBytes f) }
+    ensures { pkt.new ≡ splice pkt.old 0 (front_bytes f) }
 {
     let b13 = thirteenth(f);
     let b14 = fourteenth(f);
@@ -121,7 +121,7 @@ fn put_front(f: Fields, pkt: &mut [u8])
 // Source id and token.
 fn put_ids(f: Fields, pkt: &mut [u8])
     requires { 32 ≤ length pkt.old }
-    ensures { pkt.new ≡ splice pkt.old 16 (idBytes f) }
+    ensures { pkt.new ≡ splice pkt.old 16 (id_bytes f) }
 {
     wire_numbers::put_u64_le(pkt, 16, f.source);
     wire_numbers::put_u64_le(pkt, 24, f.token);

@@ -12,20 +12,20 @@ rotated j k x h = rw up (or_shifted (x % 2 ^ j) k (x / 2 ^ j) (shr_lt k j h))
     up : (x * 2 ^ k) % 2 ^ (j + k) ≡ (x % 2 ^ j) * 2 ^ k
     up = mod-pow-add (x * 2 ^ k) j k ∙ ap₂ (λ (a b : ℕ). (a % 2 ^ j) * 2 ^ k + b) (shl-shr x k) (mul-mod_left x (2 ^ k)) ∙ add-zero ((x % 2 ^ j) * 2 ^ k)
 
-differ-twice : (x y : ℕ) → x < 2 → y < 2 → differ (bit_xor x y) y ≡ x
-differ-twice zero zero h g = refl
-differ-twice zero (suc zero) h g = refl
-differ-twice zero (suc (suc y)) h g = absurd (omega arith)
-differ-twice (suc zero) zero h g = refl
-differ-twice (suc zero) (suc zero) h g = refl
-differ-twice (suc zero) (suc (suc y)) h g = absurd (omega arith)
-differ-twice (suc (suc x)) y h g = absurd (omega arith)
+differ_twice : (x y : ℕ) → x < 2 → y < 2 → differ (bit_xor x y) y ≡ x
+differ_twice zero zero h g = refl
+differ_twice zero (suc zero) h g = refl
+differ_twice zero (suc (suc y)) h g = absurd (omega arith)
+differ_twice (suc zero) zero h g = refl
+differ_twice (suc zero) (suc zero) h g = refl
+differ_twice (suc zero) (suc (suc y)) h g = absurd (omega arith)
+differ_twice (suc (suc x)) y h g = absurd (omega arith)
 
 -- XOR twice with one number is nothing at all
-pub bitXor-twice : (a b : ℕ) → bit_xor (bit_xor a b) b ≡ a
-bitXor-twice =
+pub bit_xor_twice : (a b : ℕ) → bit_xor (bit_xor a b) b ≡ a
+bit_xor_twice =
     bin_ind (λ (n : ℕ). (b : ℕ) → bit_xor (bit_xor n b) b ≡ n) (λ b. xor_self b)
     (λ n ih b. xor_step (bit_xor n b) b
     ∙ ap₂ (λ (x y : ℕ). bit_xor x (b / 2) * 2 + differ y (b % 2)) (xor_shr n b 1) (xor_mod n b 1)
-    ∙ ap₂ (λ (x y : ℕ). x * 2 + y) (ih (b / 2)) (differ-twice (n % 2) (b % 2) (omega arith) (omega arith))
+    ∙ ap₂ (λ (x y : ℕ). x * 2 + y) (ih (b / 2)) (differ_twice (n % 2) (b % 2) (omega arith) (omega arith))
     ∙ div-add-mod' n 2)

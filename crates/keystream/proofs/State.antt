@@ -1,12 +1,12 @@
 -- Laws of the block: a double round on 16 words, the first state from its words, the sums as bytes. Assumes nothing.
 use Rattle.std.proofs.Common.{◌≡◌, ℕ, zero, suc, ◌+◌, ◌*◌, ◌<◌, ◌≤◌, List, [], ◌∷◌, ◌++◌, length, get_or, take, sym, refl, ap, ◌∙◌, ap₂, append_assoc, append-nil, add-one, arith, length-append, length-take-le, take_all, take-suc}
 use Rattle.wire.specs.Parts.{splice}
-use Rattle.wire.specs.Numbers.{Bytes, littleAt, littleBytes}
-use Rattle.wire.proofs.Parts.{splice-join, splice_all}
-use Rattle.wire.proofs.Slices.{splice-none}
-use Rattle.wire.proofs.Numbers.{length-little, bytes-append, bytes-little}
+use Rattle.wire.specs.Numbers.{Bytes, little_at, little_bytes}
+use Rattle.wire.proofs.Parts.{splice_join, splice_all}
+use Rattle.wire.proofs.Slices.{splice_none}
+use Rattle.wire.proofs.Numbers.{length_little, bytes_append, bytes_little}
 use Rattle.keystream.specs.declared.rounds.Quad.{Quad}
-use Rattle.keystream.specs.Chacha.{add32, quarter, quadAt, putQuad, qround, columns, diagonals, doubleRound, words, initial, addWords, serialise}
+use Rattle.keystream.specs.Chacha.{add32, quarter, quad_at, put_quad, qround, columns, diagonals, double_round, words, initial, add_words, serialise}
 
 -- what holds of every list of n elements, given as a function of the elements, holds of every list of length n
 abbrev Each : ℕ → (List ℕ → Type 0) → Type 0
@@ -30,106 +30,106 @@ laid e f g h =
 
 abbrev doubled : List ℕ → List ℕ
 doubled s =
-    let p = quarter (quadAt 0 4 8 12 s) in
-    let q = quarter (quadAt 1 5 9 13 s) in
-    let r = quarter (quadAt 2 6 10 14 s) in
-    let t = quarter (quadAt 3 7 11 15 s) in
+    let p = quarter (quad_at 0 4 8 12 s) in
+    let q = quarter (quad_at 1 5 9 13 s) in
+    let r = quarter (quad_at 2 6 10 14 s) in
+    let t = quarter (quad_at 3 7 11 15 s) in
     laid (quarter (across p q r t)) (quarter (across q r t p)) (quarter (across r t p q)) (quarter (across t p q r))
 
-doubled-is : (s : List ℕ) → length s ≡ 16 → doubled s ≡ doubleRound s
-unfolding doubleRound columns diagonals qround putQuad
-doubled-is = by_length 16 (λ (s : List ℕ). doubled s ≡ doubleRound s) (λ a b c d e f g h i j k l m n o p. refl)
+doubled_is : (s : List ℕ) → length s ≡ 16 → doubled s ≡ double_round s
+unfolding double_round columns diagonals qround put_quad
+doubled_is = by_length 16 (λ (s : List ℕ). doubled s ≡ double_round s) (λ a b c d e f g h i j k l m n o p. refl)
 
 -- a double round, from what each of its eight quarter rounds gave
-pub round-by-quarters : (s : List ℕ) → length s ≡ 16 → {p q r t e f g h : Quad}
-    → p ≡ quarter (quadAt 0 4 8 12 s) → q ≡ quarter (quadAt 1 5 9 13 s) → r ≡ quarter (quadAt 2 6 10 14 s) → t ≡ quarter (quadAt 3 7 11 15 s)
+pub round_by_quarters : (s : List ℕ) → length s ≡ 16 → {p q r t e f g h : Quad}
+    → p ≡ quarter (quad_at 0 4 8 12 s) → q ≡ quarter (quad_at 1 5 9 13 s) → r ≡ quarter (quad_at 2 6 10 14 s) → t ≡ quarter (quad_at 3 7 11 15 s)
     → e ≡ quarter (across p q r t) → f ≡ quarter (across q r t p) → g ≡ quarter (across r t p q) → h ≡ quarter (across t p q r)
-    → laid e f g h ≡ doubleRound s
-round-by-quarters s n hp hq hr ht he hf hg hh = rw (he, hf, hg, hh, hp, hq, hr, ht) (doubled-is s n)
+    → laid e f g h ≡ double_round s
+round_by_quarters s n hp hq hr ht he hf hg hh = rw (he, hf, hg, hh, hp, hq, hr, ht) (doubled_is s n)
 
 -- the first state, from the words that were read
-pub initial-by-words : (key nonce : List ℕ) {n k0 k1 k2 k3 k4 k5 k6 k7 n0 n1 n2 : ℕ}
-    → k0 ≡ littleAt 4 key 0 → k1 ≡ littleAt 4 key 4 → k2 ≡ littleAt 4 key 8 → k3 ≡ littleAt 4 key 12
-    → k4 ≡ littleAt 4 key 16 → k5 ≡ littleAt 4 key 20 → k6 ≡ littleAt 4 key 24 → k7 ≡ littleAt 4 key 28
-    → n0 ≡ littleAt 4 nonce 0 → n1 ≡ littleAt 4 nonce 4 → n2 ≡ littleAt 4 nonce 8
+pub initial_by_words : (key nonce : List ℕ) {n k0 k1 k2 k3 k4 k5 k6 k7 n0 n1 n2 : ℕ}
+    → k0 ≡ little_at 4 key 0 → k1 ≡ little_at 4 key 4 → k2 ≡ little_at 4 key 8 → k3 ≡ little_at 4 key 12
+    → k4 ≡ little_at 4 key 16 → k5 ≡ little_at 4 key 20 → k6 ≡ little_at 4 key 24 → k7 ≡ little_at 4 key 28
+    → n0 ≡ little_at 4 nonce 0 → n1 ≡ little_at 4 nonce 4 → n2 ≡ little_at 4 nonce 8
     → 0x61707865 ∷ 0x3320646e ∷ 0x79622d32 ∷ 0x6b206574 ∷ k0 ∷ k1 ∷ k2 ∷ k3 ∷ k4 ∷ k5 ∷ k6 ∷ k7 ∷ n ∷ n0 ∷ n1 ∷ n2 ∷ [] ≡ initial key n nonce
 unfolding initial words
-initial-by-words key nonce a b c d e f g h i j k = rw (a, b, c, d, e, f, g, h, i, j, k)
+initial_by_words key nonce a b c d e f g h i j k = rw (a, b, c, d, e, f, g, h, i, j, k)
 
 -- ---- the sums of two states, as bytes
 
-pub length-serialise : (s : List ℕ) → length (serialise s) ≡ 4 * length s
+pub length_serialise : (s : List ℕ) → length (serialise s) ≡ 4 * length s
 unfolding serialise
-length-serialise [] = refl
-length-serialise (w ∷ s) =
-    let e : length (littleBytes 4 w ++ serialise s) ≡ length (littleBytes 4 w) + length (serialise s) = length-append (littleBytes 4 w) (serialise s) in
-    omega (arith, length-little 4 w, length-serialise s)
+length_serialise [] = refl
+length_serialise (w ∷ s) =
+    let e : length (little_bytes 4 w ++ serialise s) ≡ length (little_bytes 4 w) + length (serialise s) = length-append (little_bytes 4 w) (serialise s) in
+    omega (arith, length_little 4 w, length_serialise s)
 
-pub bytes-serialise : (s : List ℕ) → Bytes (serialise s)
+pub bytes_serialise : (s : List ℕ) → Bytes (serialise s)
 unfolding serialise
-bytes-serialise [] i = omega arith
-bytes-serialise (w ∷ s) i = bytes-append (littleBytes 4 w) (serialise s) (bytes-little 4 w) (bytes-serialise s) i
+bytes_serialise [] i = omega arith
+bytes_serialise (w ∷ s) i = bytes_append (little_bytes 4 w) (serialise s) (bytes_little 4 w) (bytes_serialise s) i
 
-serialise-append : (s t : List ℕ) → serialise (s ++ t) ≡ serialise s ++ serialise t
+serialise_append : (s t : List ℕ) → serialise (s ++ t) ≡ serialise s ++ serialise t
 unfolding serialise
-serialise-append [] t = refl
-serialise-append (w ∷ s) t =
-    ap (λ (l : List ℕ). littleBytes 4 w ++ l) (serialise-append s t)
-    ∙ sym (append_assoc (littleBytes 4 w) (serialise s) (serialise t))
+serialise_append [] t = refl
+serialise_append (w ∷ s) t =
+    ap (λ (l : List ℕ). little_bytes 4 w ++ l) (serialise_append s t)
+    ∙ sym (append_assoc (little_bytes 4 w) (serialise s) (serialise t))
 
 -- one word more
-serialise-more : (s : List ℕ) (i : ℕ) → i < length s → serialise (take (suc i) s) ≡ serialise (take i s) ++ littleBytes 4 (get_or s i 0)
+serialise_more : (s : List ℕ) (i : ℕ) → i < length s → serialise (take (suc i) s) ≡ serialise (take i s) ++ little_bytes 4 (get_or s i 0)
 unfolding serialise
-serialise-more s i h =
+serialise_more s i h =
     ap serialise (take-suc s i 0 h)
-    ∙ serialise-append (take i s) (get_or s i 0 ∷ [])
-    ∙ ap (λ (l : List ℕ). serialise (take i s) ++ l) (append-nil (littleBytes 4 (get_or s i 0)))
+    ∙ serialise_append (take i s) (get_or s i 0 ∷ [])
+    ∙ ap (λ (l : List ℕ). serialise (take i s) ++ l) (append-nil (little_bytes 4 (get_or s i 0)))
 
-length-sum : (s t : List ℕ) → length s ≡ length t → length (addWords s t) ≡ length s
-unfolding addWords
-length-sum [] t e = refl
-length-sum (a ∷ s) [] e = absurd (omega arith)
-length-sum (a ∷ s) (b ∷ t) e = ap suc (length-sum s t (omega arith))
+length_sum : (s t : List ℕ) → length s ≡ length t → length (add_words s t) ≡ length s
+unfolding add_words
+length_sum [] t e = refl
+length_sum (a ∷ s) [] e = absurd (omega arith)
+length_sum (a ∷ s) (b ∷ t) e = ap suc (length_sum s t (omega arith))
 
-getD-sum : (s t : List ℕ) (i : ℕ) → i < length s → i < length t → get_or (addWords s t) i 0 ≡ add32 (get_or s i 0) (get_or t i 0)
-unfolding addWords
-getD-sum [] t i h g = absurd (omega arith)
-getD-sum (a ∷ s) [] i h g = absurd (omega arith)
-getD-sum (a ∷ s) (b ∷ t) zero h g = refl
-getD-sum (a ∷ s) (b ∷ t) (suc i) h g = getD-sum s t i (omega arith) (omega arith)
+get_d_sum : (s t : List ℕ) (i : ℕ) → i < length s → i < length t → get_or (add_words s t) i 0 ≡ add32 (get_or s i 0) (get_or t i 0)
+unfolding add_words
+get_d_sum [] t i h g = absurd (omega arith)
+get_d_sum (a ∷ s) [] i h g = absurd (omega arith)
+get_d_sum (a ∷ s) (b ∷ t) zero h g = refl
+get_d_sum (a ∷ s) (b ∷ t) (suc i) h g = get_d_sum s t i (omega arith) (omega arith)
 
 -- the first i sums of two states stand at the front of the block
 abbrev pub Filled : List ℕ → List ℕ → List ℕ → List ℕ → ℕ → Type 0
-Filled s t o₀ o i = o ≡ splice o₀ 0 (serialise (take i (addWords s t)))
+Filled s t o₀ o i = o ≡ splice o₀ 0 (serialise (take i (add_words s t)))
 
-pub finish-none : (s t o₀ : List ℕ) → Filled s t o₀ o₀ 0
+pub finish_none : (s t o₀ : List ℕ) → Filled s t o₀ o₀ 0
 unfolding serialise
-finish-none s t o₀ = sym (splice-none o₀ 0)
+finish_none s t o₀ = sym (splice_none o₀ 0)
 
 -- a turn of the loop over the words, and its end
 module _ (s t o₀ : List ℕ) (hs : length s ≡ 16) (ht : length t ≡ 16) (ho : length o₀ ≡ 64) where
-  sum-long : length (addWords s t) ≡ 16
-  sum-long = length-sum s t (hs ∙ sym ht) ∙ hs
+  sum_long : length (add_words s t) ≡ 16
+  sum_long = length_sum s t (hs ∙ sym ht) ∙ hs
 
-  pub finish-more : (o o' : List ℕ) (i r : ℕ) → i < 16 → Filled s t o₀ o i → r ≡ add32 (get_or s i 0) (get_or t i 0) → o' ≡ splice o (4 * i) (littleBytes 4 r) → Filled s t o₀ o' (i + 1)
-  finish-more o o' i r h eo er e =
-      let sums = addWords s t in
+  pub finish_more : (o o' : List ℕ) (i r : ℕ) → i < 16 → Filled s t o₀ o i → r ≡ add32 (get_or s i 0) (get_or t i 0) → o' ≡ splice o (4 * i) (little_bytes 4 r) → Filled s t o₀ o' (i + 1)
+  finish_more o o' i r h eo er e =
+      let sums = add_words s t in
       let v = serialise (take i sums) in
-      let lv : length v ≡ 4 * i = length-serialise (take i sums) ∙ ap (λ (n : ℕ). 4 * n) (length-take-le i sums (omega (arith, sum-long))) in
+      let lv : length v ≡ 4 * i = length_serialise (take i sums) ∙ ap (λ (n : ℕ). 4 * n) (length-take-le i sums (omega (arith, sum_long))) in
       let at : 4 * i ≡ 0 + length v = omega arith in
-      let w = littleBytes 4 (get_or sums i 0) in
-      let fits : 0 + length v + length w ≤ length o₀ = omega (arith, length-little 4 (get_or sums i 0)) in
+      let w = little_bytes 4 (get_or sums i 0) in
+      let fits : 0 + length v + length w ≤ length o₀ = omega (arith, length_little 4 (get_or sums i 0)) in
       e
-      ∙ ap (λ (x : ℕ). splice o (4 * i) (littleBytes 4 x)) (er ∙ sym (getD-sum s t i (omega arith) (omega arith)))
+      ∙ ap (λ (x : ℕ). splice o (4 * i) (little_bytes 4 x)) (er ∙ sym (get_d_sum s t i (omega arith) (omega arith)))
       ∙ ap₂ (λ (l : List ℕ) (n : ℕ). splice l n w) eo at
-      ∙ splice-join o₀ 0 v w fits
-      ∙ ap (splice o₀ 0) (sym (serialise-more sums i (omega (arith, sum-long))))
+      ∙ splice_join o₀ 0 v w fits
+      ∙ ap (splice o₀ 0) (sym (serialise_more sums i (omega (arith, sum_long))))
       ∙ ap (λ (n : ℕ). splice o₀ 0 (serialise (take n sums))) (sym (add-one i))
 
-  pub finish-all : (o : List ℕ) (i : ℕ) → i ≡ 16 → Filled s t o₀ o i → o ≡ serialise (addWords s t)
-  finish-all o i e eo =
-      let sums = addWords s t in
-      let long : length (serialise sums) ≡ length o₀ = omega (arith, length-serialise sums, sum-long) in
+  pub finish_all : (o : List ℕ) (i : ℕ) → i ≡ 16 → Filled s t o₀ o i → o ≡ serialise (add_words s t)
+  finish_all o i e eo =
+      let sums = add_words s t in
+      let long : length (serialise sums) ≡ length o₀ = omega (arith, length_serialise sums, sum_long) in
       eo
-      ∙ ap (λ (l : List ℕ). splice o₀ 0 (serialise l)) (take_all i sums (omega (arith, sum-long)))
+      ∙ ap (λ (l : List ℕ). splice o₀ 0 (serialise l)) (take_all i sums (omega (arith, sum_long)))
       ∙ splice_all o₀ (serialise sums) long

@@ -3,11 +3,11 @@ use Rattle.std.specs.Prelude.{ℕ, ◌+◌, List, [], ◌∷◌, ◌++◌, take,
 use Rattle.wire.specs.Parts.{part}
 
 -- each byte XORed with the stream's byte at its place; bytes past the stream's end stay
-unfoldable pub xorWith : List ℕ → List ℕ → List ℕ
-xorWith [] k = []
-xorWith (a ∷ l) [] = a ∷ l
-xorWith (a ∷ l) (b ∷ k) = bit_xor a b ∷ xorWith l k
+unfoldable pub xor_with : List ℕ → List ℕ → List ℕ
+xor_with [] k = []
+xor_with (a ∷ l) [] = a ∷ l
+xor_with (a ∷ l) (b ∷ k) = bit_xor a b ∷ xor_with l k
 
 -- the bytes before a place, the n bytes from it on XORed with the stream's first n, the bytes after them
 unfoldable pub masked : List ℕ → ℕ → ℕ → List ℕ → List ℕ
-masked l from n k = take from l ++ (xorWith (part l from n) k ++ drop (from + n) l)
+masked l from n k = take from l ++ (xor_with (part l from n) k ++ drop (from + n) l)

@@ -3,7 +3,7 @@ mod rounds;
 
 ghost use Rattle.std.specs.Prelude.{◌≡◌, ◌+◌, ◌≤◌, length};
 ghost use Rattle.keystream.specs.Chacha as Chacha;
-ghost use Rattle.keystream.specs.Mask.{xorWith, masked};
+ghost use Rattle.keystream.specs.Mask.{xor_with, masked};
 
 // 64 bytes of keystream.
 pub fn block(key: &[u8; 32], counter: u32, nonce: &[u8; 12]) -> [u8; 64]
@@ -17,7 +17,7 @@ pub fn block(key: &[u8; 32], counter: u32, nonce: &[u8; 12]) -> [u8; 64]
 // Each byte of a part XORed with the stream's byte at its place.
 fn xor_with(part: &mut [u8], stream: &[u8])
     requires { length part.old ≤ length stream.now }
-    ensures { part.new ≡ xorWith part.old stream.now }
+    ensures { part.new ≡ xor_with part.old stream.now }
 {
     for i in 0..part.len() {
         part[i] = part[i] ^ stream[i];

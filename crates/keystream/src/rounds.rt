@@ -1,8 +1,8 @@
 // The rounds of the ChaCha20 block, after RFC 8439, sections 2.1 to 2.3.
 ghost use Rattle.std.specs.Prelude.{◌≡◌, ◌*◌, ◌<◌};
 ghost use Rattle.wire.specs.Parts.{splice};
-ghost use Rattle.wire.specs.Numbers.{littleBytes};
-ghost use Rattle.keystream.specs.Chacha.{quadAt, rotl, lineAD, lineCB, doubleRound, addWords, serialise};
+ghost use Rattle.wire.specs.Numbers.{little_bytes};
+ghost use Rattle.keystream.specs.Chacha.{quad_at, rotl, line_ad, line_cb, double_round, add_words, serialise};
 ghost use Rattle.keystream.specs.Chacha as Chacha;
 
 use std::num::wrapping_add_u32;
@@ -28,7 +28,7 @@ fn rotate(x: u32, n: u32) -> u32
 // a += b; d ^= a; d <<<= n.
 fn line_ad(q: Quad, n: u32) -> Quad
     requires { (0 < n) × (n < 32) }
-    ensures { result ≡ lineAD n q }
+    ensures { result ≡ line_ad n q }
 {
     let a = wrapping_add_u32(q.a, q.b);
     let d = rotate(q.d ^ a, n);
@@ -43,7 +43,7 @@ fn line_ad(q: Quad, n: u32) -> Quad
 // c += d; b ^= c; b <<<= n.
 fn line_cb(q: Quad, n: u32) -> Quad
     requires { (0 < n) × (n < 32) }
-    ensures { result ≡ lineCB n q }
+    ensures { result ≡ line_cb n q }
 {
     let c = wrapping_add_u32(q.c, q.d);
     let b = rotate(q.b ^ c, n);
@@ -67,7 +67,7 @@ fn quarter(q: Quad) -> Quad
 // The words at x, y, z and w.
 fn quad_at(s: [u32; 16], x: usize, y: usize, z: usize, w: usize) -> Quad
     requires { (x < 16) × (y < 16) × (z < 16) × (w < 16) }
-    ensures { result ≡ quadAt x y z w s }
+    ensures { result ≡ quad_at x y z w s }
 {
     Quad {
         a: s[x],
@@ -78,7 +78,7 @@ fn quad_at(s: [u32; 16], x: usize, y: usize, z: usize, w: usize) -> Quad
 }
 
 fn double_round(s: [u32; 16]) -> [u32; 16]
-    ensures { result ≡ doubleRound s }
+    ensures { result ≡ double_round s }
 {
     let p = quarter(quad_at(s, 0, 4, 8, 12));
     let q = quarter(quad_at(s, 1, 5, 9, 13));
@@ -151,14 +151,14 @@ pub(crate) fn initial(key: &[u8; 32], counter: u32, nonce: &[u8; 12]) -> [u32; 1
 // A word's four bytes at its place in the block.
 fn put_word(out: &mut [u8; 64], i: usize, w: u32)
     requires { i < 16 }
-    ensures { out.new ≡ splice out.old (4 * i) (littleBytes 4 w) }
+    ensures { out.new ≡ splice out.old (4 * i) (little_bytes 4 w) }
 {
     put_u32_le(out, 4 * i, w);
 }
 
 // The sums of the words of two states, as bytes.
 pub(crate) fn finish(s: [u32; 16], t: [u32; 16]) -> [u8; 64]
-    ensures { result ≡ serialise (addWords s t) }
+    ensures { result ≡ serialise (add_words s t) }
 {
     let mut out = [0u8; 64];
     for i in 0..16usize {

@@ -6,9 +6,9 @@ use native.Mathlib.Nat.{zero-add}
 use native.Mathlib.Omega.{arith}
 use lib.ListN.{length, get_or, set}
 use lib.Seq.{paste}
-use Rattle.wire.proofs.Copying.{copy-turn}
+use Rattle.wire.proofs.Copying.{copy_turn}
 
-pub fill-turn : (d s x : List ℕ) (i v : ℕ) → x ≡ paste d 0 s i → i < length d → i < length s → v ≡ get_or s i 0 → set x i v ≡ paste d 0 s (i + 1)
-fill-turn d s x i v e hd hs q =
+pub fill_turn : (d s x : List ℕ) (i v : ℕ) → x ≡ paste d 0 s i → i < length d → i < length s → v ≡ get_or s i 0 → set x i v ≡ paste d 0 s (i + 1)
+fill_turn d s x i v e hd hs q =
     let z : 0 + i ≡ i = zero-add i in
-    ap (λ (k : ℕ). set x k v) (sym z) ∙ ap (set x (0 + i)) q ∙ copy-turn d s x 0 i e (omega arith) hs
+    ap (λ (k : ℕ). set x k v) (sym z) ∙ ap (set x (0 + i)) q ∙ copy_turn d s x 0 i e (omega arith) hs

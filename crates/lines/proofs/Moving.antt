@@ -7,14 +7,14 @@ use lib.ListN.{length, get_or, set, take, drop}
 use lib.Seq.{paste, drop-paste, get_or-drop}
 use borrow.Rule.Slice.PartMut.{put_mid, take_put}
 use Rattle.wire.specs.Parts.{part, splice}
-use Rattle.wire.proofs.Parts.{part-is, get_d_part, part_same, length-splice}
-use Rattle.wire.proofs.Slices.{length-part-min}
-use Rattle.wire.proofs.Copying.{copy-end}
-use Rattle.lines.proofs.Filling.{fill-turn}
+use Rattle.wire.proofs.Parts.{part_is, get_d_part, part_same, length_splice}
+use Rattle.wire.proofs.Slices.{length_part_min}
+use Rattle.wire.proofs.Copying.{copy_end}
+use Rattle.lines.proofs.Filling.{fill_turn}
 
 module _ (l : List ℕ) (from n : ℕ) (fits : n ≤ length l - from) where
   long : length (part l from n) ≡ n
-  long = let e : min n (length l - from) ≡ n = omega arith in length-part-min l from n ∙ e
+  long = let e : min n (length l - from) ≡ n = omega arith in length_part_min l from n ∙ e
 
   module _ (x : List ℕ) (i : ℕ) (e : x ≡ paste l 0 (part l from n) i) where
     -- what is read was not written yet
@@ -29,23 +29,23 @@ module _ (l : List ℕ) (from n : ℕ) (fits : n ≤ length l - from) where
         ∙ ap (λ (k : ℕ). get_or l k 0) (sym q)
         ∙ sym (get_d_part l from n i 0 h)
 
-    pub move-turn : i < n → set x i (get_or x (from + i) 0) ≡ paste l 0 (part l from n) (i + 1)
-    move-turn h = fill-turn l (part l from n) x i (get_or x (from + i) 0) e (omega arith) (omega (arith, long)) (read h)
+    pub move_turn : i < n → set x i (get_or x (from + i) 0) ≡ paste l 0 (part l from n) (i + 1)
+    move_turn h = fill_turn l (part l from n) x i (get_or x (from + i) 0) e (omega arith) (omega (arith, long)) (read h)
 
-    pub move-end : i ≡ n → x ≡ splice l 0 (part l from n)
-    move-end h = copy-end l (part l from n) x 0 i e (omega (arith, long))
+    pub move_end : i ≡ n → x ≡ splice l 0 (part l from n)
+    move_end h = copy_end l (part l from n) x 0 i e (omega (arith, long))
 
   -- the part after them is lent, and they stay
-  pub move-stays : (x ys : List ℕ) (k m : ℕ) → n ≡ m → x ≡ splice l 0 (part l from n) → part (put_mid n k x ys) 0 m ≡ part l from m
-  move-stays x ys k m q e =
+  pub move_stays : (x ys : List ℕ) (k m : ℕ) → n ≡ m → x ≡ splice l 0 (part l from n) → part (put_mid n k x ys) 0 m ≡ part l from m
+  move_stays x ys k m q e =
       let s : List ℕ = part l from n in
       let room : 0 + length (part l from n) ≤ length l = omega (arith, long) in
-      let size : length x ≡ length l = ap length e ∙ length-splice l 0 s room in
-      sym (part-is (put_mid n k x ys) 0 m)
+      let size : length x ≡ length l = ap length e ∙ length_splice l 0 s room in
+      sym (part_is (put_mid n k x ys) 0 m)
       ∙ ap (λ (j : ℕ). take j (put_mid n k x ys)) (sym q)
       ∙ take_put n k x ys (omega arith)
       ∙ ap (take n) e
-      ∙ part-is (splice l 0 s) 0 n
+      ∙ part_is (splice l 0 s) 0 n
       ∙ ap (λ (j : ℕ). part (splice l 0 s) 0 j) (sym long)
       ∙ part_same l 0 s room
       ∙ ap (part l from) q

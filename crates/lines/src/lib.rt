@@ -1,15 +1,15 @@
 // The lists that the check programs replay: a case a line, its fields parted by one space, bytes as hex digits.
 ghost use Rattle.std.specs.Prelude.{◌≡◌, true, ◌+◌, ◌-◌, ◌≤◌, length, drop};
 ghost use Rattle.wire.specs.Parts.{part, splice};
-ghost use Rattle.lines.specs.Fields.{isEnd, lead, field_at, past, wholeUpTo, unread, keptBytes};
-ghost use Rattle.lines.specs.Digits.{digitOf, pair_of, pairsOf, all_bytes, bytesIn, withBytes, decimalOf};
+ghost use Rattle.lines.specs.Fields.{is_end, lead, field_at, past, whole_up_to, unread, kept_bytes};
+ghost use Rattle.lines.specs.Digits.{digit_of, pair_of, pairs_of, all_bytes, bytes_in, with_bytes, decimal_of};
 
 const SPACE: u8 = 32;
 
 const NEWLINE: u8 = 10;
 
 fn ends(b: u8, own: u8) -> bool
-    ensures { result ≡ isEnd own b }
+    ensures { result ≡ is_end own b }
 {
     (b == NEWLINE) | (b == own)
 }
@@ -67,7 +67,7 @@ pub fn after_line(text: &[u8], at: usize) -> usize
 
 // The place after the last whole line.
 pub fn whole(text: &[u8]) -> usize
-    ensures value { result ≡ wholeUpTo text.now (length text.now) }
+    ensures value { result ≡ whole_up_to text.now (length text.now) }
     ensures upper_bound { result ≤ length text.now }
 {
     let mut n = text.len();
@@ -103,7 +103,7 @@ fn shift(buf: &mut [u8], from: usize, n: usize)
 
 // What was not used of a buffer's first bytes moved to its front, and more read after it; how many bytes there are now.
 pub fn refill(fd: i32, buf: &mut [u8], used: usize, have: usize) -> usize
-    ensures buf_after { part buf.new 0 (unread used have (length buf.old)) ≡ keptBytes buf.old used have }
+    ensures buf_after { part buf.new 0 (unread used have (length buf.old)) ≡ kept_bytes buf.old used have }
     ensures lower_bound { (unread used have (length buf.old) ≤ result) × (result ≤ length buf.new) }
 {
     let left = between(used, have, buf.len());
@@ -114,7 +114,7 @@ pub fn refill(fd: i32, buf: &mut [u8], used: usize, have: usize) -> usize
 
 // The value of a hex digit; 16 where a byte is none.
 fn digit(b: u8) -> u8
-    ensures { (result ≡ digitOf b) × (result ≤ 16) }
+    ensures { (result ≡ digit_of b) × (result ≤ 16) }
 {
     if b < 48 {
         return 16;
@@ -155,7 +155,7 @@ fn pair(high: u8, low: u8) -> u16
 
 // Whether a field is bytes: each two digits of it are hex, and none is left over.
 fn is_hex(field: &[u8]) -> bool
-    ensures { result ≡ all_bytes (pairsOf field.now) }
+    ensures { result ≡ all_bytes (pairs_of field.now) }
 {
     let mut i = 0;
     while 1 < field.len() - i {
@@ -169,8 +169,8 @@ fn is_hex(field: &[u8]) -> bool
 
 // The byte of each two digits of such a field, at the start of a buffer with room for all.
 fn fill(field: &[u8], out: &mut [u8])
-    requires { (all_bytes (pairsOf field.now) ≡ true) × (length (pairsOf field.now) ≤ length out.old) }
-    ensures { out.new ≡ splice out.old 0 (pairsOf field.now) }
+    requires { (all_bytes (pairs_of field.now) ≡ true) × (length (pairs_of field.now) ≤ length out.old) }
+    ensures { out.new ≡ splice out.old 0 (pairs_of field.now) }
 {
     let n = field.len() / 2;
     let mut i = 0;
@@ -182,7 +182,7 @@ fn fill(field: &[u8], out: &mut [u8])
 
 // A field of hex digits as bytes at the start of a buffer, and their count; or it is refused, and the buffer stays.
 pub fn bytes(field: &[u8], out: &mut [u8]) -> Got
-    ensures { (result ≡ bytesIn field.now (length out.old)) × (out.new ≡ withBytes field.now out.old) }
+    ensures { (result ≡ bytes_in field.now (length out.old)) × (out.new ≡ with_bytes field.now out.old) }
 {
     let n = field.len() / 2;
     if !is_hex(field) {
@@ -197,7 +197,7 @@ pub fn bytes(field: &[u8], out: &mut [u8]) -> Got
 
 // A field of decimal digits as a number below 2 ^ 64.
 pub fn number(field: &[u8]) -> Got
-    ensures { result ≡ decimalOf field.now }
+    ensures { result ≡ decimal_of field.now }
 {
     if field.len() == 0 {
         return Got::Bad;

@@ -7,7 +7,7 @@ use lib.Dec.{eqb}
 use borrow.Author.Tests.{eqb-true}
 use Rattle.blocks.specs.declared.Part.{Part}
 use Rattle.reassembly.specs.Calls.{Lent}
-use Rattle.messages.specs.Delivery.{deliveryWith, nothing, deliveredBy}
+use Rattle.messages.specs.Delivery.{delivery_with, nothing, delivered_by}
 
 -- a type that holds no message
 abbrev pub Other : ℕ → Type 0
@@ -23,6 +23,6 @@ by_kind P whole first follow other kind = go (eqb kind 3) refl (eqb kind 4) refl
     go false e false f true g = subst P (sym (eqb-true kind 5 g)) follow
     go false e false f false g = other kind (e, f, g)
 
-pub other-is : (s : List ℕ) (at : ℕ) (x : Lent) (n second kind : ℕ) (f : List ℕ) (p : Part) → Other kind → deliveredBy s at x n second kind f p ≡ deliveryWith (nothing 0 0) x
-unfolding deliveredBy
-other-is s at x n second kind f p h = rw (h.0, h.1, h.2) refl
+pub other_is : (s : List ℕ) (at : ℕ) (x : Lent) (n second kind : ℕ) (f : List ℕ) (p : Part) → Other kind → delivered_by s at x n second kind f p ≡ delivery_with (nothing 0 0) x
+unfolding delivered_by
+other_is s at x n second kind f p h = rw (h.0, h.1, h.2) refl

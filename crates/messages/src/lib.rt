@@ -3,8 +3,8 @@ ghost use Rattle.std.specs.Prelude.{◌≡◌, true};
 ghost use Rattle.wire.specs.Parts.{part};
 ghost use Rattle.blocks.specs.Layout.{fits};
 ghost use Rattle.blocks.specs.Table.{widths};
-ghost use Rattle.blocks.specs.Reading.{readAt};
-ghost use Rattle.messages.specs.Delivery.{deliveryWith, nothing, whole_at, rebuiltBy, deliveredBy, delivered, messageIn};
+ghost use Rattle.blocks.specs.Reading.{read_at};
+ghost use Rattle.messages.specs.Delivery.{delivery_with, nothing, whole_at, rebuilt_by, delivered_by, delivered, message_in};
 ghost use Rattle.reassembly.specs.Calls.{lent};
 
 use blocks::{
@@ -57,7 +57,7 @@ fn whole_at(kind: u8, id: u32, expires: u32, bytes: Part) -> Received
 
 // What the store's reply to the piece of the block at a place delivers.
 fn rebuilt_by(at: usize, r: Reply, id: u32) -> Received
-    ensures { result ≡ rebuiltBy at r id }
+    ensures { result ≡ rebuilt_by at r id }
 {
     if r.number == 60 {
         return Received {
@@ -103,7 +103,7 @@ fn deliver_first(
     second: u64,
 ) -> Received
     requires { fits (widths 4) fields ≡ true }
-    ensures { deliveryWith result (lent rec.new room.new out.new) ≡ deliveredBy payload.now at (lent rec.old room.old out.old) neighbour second 4 fields bytes }
+    ensures { delivery_with result (lent rec.new room.new out.new) ≡ delivered_by payload.now at (lent rec.old room.old out.old) neighbour second 4 fields bytes }
 {
     let kind = fields[MESSAGE_TYPE] as u8;
     let id = fields[MESSAGE_ID] as u32;
@@ -128,7 +128,7 @@ fn deliver_follow_on(
     second: u64,
 ) -> Received
     requires { fits (widths 5) fields ≡ true }
-    ensures { deliveryWith result (lent rec.new room.new out.new) ≡ deliveredBy payload.now at (lent rec.old room.old out.old) neighbour second 5 fields bytes }
+    ensures { delivery_with result (lent rec.new room.new out.new) ≡ delivered_by payload.now at (lent rec.old room.old out.old) neighbour second 5 fields bytes }
 {
     let byte = fields[FOLLOW_ON_BYTE];
     let id = fields[FOLLOW_ON_ID] as u32;
@@ -161,7 +161,7 @@ fn deliver(
     second: u64,
 ) -> Received
     requires { fits (widths kind) fields ≡ true }
-    ensures { deliveryWith result (lent rec.new room.new out.new) ≡ deliveredBy payload.now at (lent rec.old room.old out.old) neighbour second kind fields bytes }
+    ensures { delivery_with result (lent rec.new room.new out.new) ≡ delivered_by payload.now at (lent rec.old room.old out.old) neighbour second kind fields bytes }
 {
     if kind == I2NP {
         return whole_at(
@@ -194,7 +194,7 @@ pub fn receive(
     neighbour: u64,
     second: u64,
 ) -> Received
-    ensures { deliveryWith result (lent rec.new room.new out.new) ≡ delivered payload.now at (lent rec.old room.old out.old) neighbour second (readAt payload.now at) }
+    ensures { delivery_with result (lent rec.new room.new out.new) ≡ delivered payload.now at (lent rec.old room.old out.old) neighbour second (read_at payload.now at) }
 {
     let read = blocks_reader::read_block(payload, at);
     let extent = read.extent;
@@ -210,7 +210,7 @@ pub fn receive(
 
 // The message that was received, as the part of the payload or of the assembly buffer that it is.
 pub fn message<'a>(payload: &'a [u8], out: &'a [u8], r: Received) -> &'a [u8]
-    ensures { result.now ≡ messageIn payload.now out.now r }
+    ensures { result.now ≡ message_in payload.now out.now r }
 {
     if r.from == 1 {
         return shown(payload, r.start, r.length);

@@ -6,48 +6,48 @@ use Rattle.header.specs.declared.HeaderKind.{HeaderKind}
 use Rattle.header.specs.declared.HeaderKind.TheVariants.{SessionRequest, SessionCreated, SessionConfirmed, Data, PeerTest, Retry, TokenRequest, HolePunch}
 use Rattle.header.specs.declared.Answer.{Answer}
 use Rattle.header.specs.declared.Answer.TheVariants.{Header, Refused}
-use Rattle.header.specs.Kinds.{isKeyed}
+use Rattle.header.specs.Kinds.{is_keyed}
 
 -- a header of 32 or 64 bytes, with the place of its key
-abbrev pub longNumbers : ℕ → ℕ → Long → List ℕ
-longNumbers t key l = t ∷ l.version ∷ l.network ∷ 0 ∷ 0 ∷ 0 ∷ l.number ∷ l.destination ∷ l.source ∷ l.token ∷ key ∷ []
+abbrev pub long_numbers : ℕ → ℕ → Long → List ℕ
+long_numbers t key l = t ∷ l.version ∷ l.network ∷ 0 ∷ 0 ∷ 0 ∷ l.number ∷ l.destination ∷ l.source ∷ l.token ∷ key ∷ []
 
 -- each type's; SessionRequest and SessionCreated have a key at 32
-abbrev pub kindNumbers : HeaderKind → List ℕ
-kindNumbers (SessionRequest l) = longNumbers 0 32 l
-kindNumbers (SessionCreated l) = longNumbers 1 32 l
-kindNumbers (SessionConfirmed d n f k) = 2 ∷ 0 ∷ 0 ∷ f ∷ k ∷ 0 ∷ n ∷ d ∷ 0 ∷ 0 ∷ 0 ∷ []
-kindNumbers (Data d n a) = 6 ∷ 0 ∷ 0 ∷ 0 ∷ 0 ∷ cond a 1 0 ∷ n ∷ d ∷ 0 ∷ 0 ∷ 0 ∷ []
-kindNumbers (PeerTest l) = longNumbers 7 0 l
-kindNumbers (Retry l) = longNumbers 9 0 l
-kindNumbers (TokenRequest l) = longNumbers 10 0 l
-kindNumbers (HolePunch l) = longNumbers 11 0 l
+abbrev pub kind_numbers : HeaderKind → List ℕ
+kind_numbers (SessionRequest l) = long_numbers 0 32 l
+kind_numbers (SessionCreated l) = long_numbers 1 32 l
+kind_numbers (SessionConfirmed d n f k) = 2 ∷ 0 ∷ 0 ∷ f ∷ k ∷ 0 ∷ n ∷ d ∷ 0 ∷ 0 ∷ 0 ∷ []
+kind_numbers (Data d n a) = 6 ∷ 0 ∷ 0 ∷ 0 ∷ 0 ∷ cond a 1 0 ∷ n ∷ d ∷ 0 ∷ 0 ∷ 0 ∷ []
+kind_numbers (PeerTest l) = long_numbers 7 0 l
+kind_numbers (Retry l) = long_numbers 9 0 l
+kind_numbers (TokenRequest l) = long_numbers 10 0 l
+kind_numbers (HolePunch l) = long_numbers 11 0 l
 
 -- the number that comes back: 0, or the refusal
-abbrev pub answerNumber : Answer → ℕ
-answerNumber (Header k) = 0
-answerNumber (Refused r) = r
+abbrev pub answer_number : Answer → ℕ
+answer_number (Header k) = 0
+answer_number (Refused r) = r
 
 -- the lent numbers afterwards: the header's, or as they were
-abbrev pub answerNumbers : Answer → List ℕ → List ℕ
-answerNumbers (Header k) out = kindNumbers k
-answerNumbers (Refused r) out = out
+abbrev pub answer_numbers : Answer → List ℕ → List ℕ
+answer_numbers (Header k) out = kind_numbers k
+answer_numbers (Refused r) out = out
 
 -- the fields by numbers; any flag but 0 is set
-abbrev pub fieldsBy : ℕ → ℕ → ℕ → ℕ → ℕ → ℕ → ℕ → ℕ → ℕ → ℕ → Fields
-fieldsBy t d n v w s k f c a =
+abbrev pub fields_by : ℕ → ℕ → ℕ → ℕ → ℕ → ℕ → ℕ → ℕ → ℕ → ℕ → Fields
+fields_by t d n v w s k f c a =
     record { kind = t; destination = d; number = n; version = v; network = w; source = s; token = k; fragment = f; count = c; immediate = not (eqb a 0) }
 
 -- the fields that eleven lent numbers are, by their places; the place of the key is no field
-abbrev pub fieldsFrom : List ℕ → Fields
-fieldsFrom n =
-    fieldsBy (get_or n 0 0) (get_or n 7 0) (get_or n 6 0) (get_or n 1 0) (get_or n 2 0) (get_or n 8 0) (get_or n 9 0) (get_or n 3 0) (get_or n 4 0) (get_or n 5 0)
+abbrev pub fields_from : List ℕ → Fields
+fields_from n =
+    fields_by (get_or n 0 0) (get_or n 7 0) (get_or n 6 0) (get_or n 1 0) (get_or n 2 0) (get_or n 8 0) (get_or n 9 0) (get_or n 3 0) (get_or n 4 0) (get_or n 5 0)
 
 -- the eleven numbers of fields; types 0 and 1 have a key at 32
-abbrev pub numbersOf : Fields → List ℕ
-numbersOf f =
+abbrev pub numbers_of : Fields → List ℕ
+numbers_of f =
     f.kind ∷ f.version ∷ f.network ∷ f.fragment ∷ f.count ∷ cond f.immediate 1 0 ∷ f.number ∷ f.destination ∷ f.source ∷ f.token
-    ∷ cond (isKeyed f.kind) 32 0 ∷ []
+    ∷ cond (is_keyed f.kind) 32 0 ∷ []
 
 -- lent numbers that fit the parameters of strawhub_header_write: u8, u32 and u64
 pub record NumbersInWidth (n : List ℕ) : Type 0 where

@@ -1,6 +1,6 @@
 // A header by numbers.
 ghost use Rattle.std.specs.Prelude.{◌≡◌};
-ghost use Rattle.numbers.specs.Headers.{longNumbers, kindNumbers, answerNumber, answerNumbers};
+ghost use Rattle.numbers.specs.Headers.{long_numbers, kind_numbers, answer_number, answer_numbers};
 
 use header::{Answer, HeaderKind, Long};
 use numbers::flag;
@@ -18,7 +18,7 @@ fn word(x: u32) -> u64
 }
 
 fn long_numbers(kind: u64, key: u64, l: Long) -> [u64; 11]
-    ensures { result ≡ longNumbers kind key l }
+    ensures { result ≡ long_numbers kind key l }
 {
     let version = byte(l.version);
     let network = byte(l.network);
@@ -39,7 +39,7 @@ fn long_numbers(kind: u64, key: u64, l: Long) -> [u64; 11]
 }
 
 fn confirmed_numbers(destination: u64, number: u32, fragment: u8, count: u8) -> [u64; 11]
-    ensures { result ≡ kindNumbers (HeaderKind.SessionConfirmed destination number fragment count) }
+    ensures { result ≡ kind_numbers (HeaderKind.SessionConfirmed destination number fragment count) }
 {
     let n = word(number);
     let f = byte(fragment);
@@ -48,7 +48,7 @@ fn confirmed_numbers(destination: u64, number: u32, fragment: u8, count: u8) -> 
 }
 
 fn data_numbers(destination: u64, number: u32, immediate: bool) -> [u64; 11]
-    ensures { result ≡ kindNumbers (HeaderKind.Data destination number immediate) }
+    ensures { result ≡ kind_numbers (HeaderKind.Data destination number immediate) }
 {
     let n = word(number);
     let a = flag(immediate);
@@ -56,7 +56,7 @@ fn data_numbers(destination: u64, number: u32, immediate: bool) -> [u64; 11]
 }
 
 fn kind_numbers(kind: HeaderKind) -> [u64; 11]
-    ensures { result ≡ kindNumbers kind }
+    ensures { result ≡ kind_numbers kind }
 {
     match kind {
         HeaderKind::SessionRequest(l) => long_numbers(0, 32, l),
@@ -80,7 +80,7 @@ fn kind_numbers(kind: HeaderKind) -> [u64; 11]
 }
 
 fn refusal(answer: Answer) -> u32
-    ensures { result ≡ answerNumber answer }
+    ensures { result ≡ answer_number answer }
 {
     match answer {
         Answer::Header(_) => 0,
@@ -90,7 +90,7 @@ fn refusal(answer: Answer) -> u32
 
 // A header's numbers put into the lent ones; refused, they stay.
 pub fn put_numbers(answer: Answer, out: &mut [u64; 11]) -> u32
-    ensures { (result ≡ answerNumber answer) × (out.new ≡ answerNumbers answer out.old) }
+    ensures { (result ≡ answer_number answer) × (out.new ≡ answer_numbers answer out.old) }
 {
     let Answer::Header(kind) = answer else {
         return refusal(answer);

@@ -12,74 +12,74 @@ use Rattle.blocks.specs.declared.Extent.TheVariants as End
 use Rattle.blocks.specs.declared.Read.{Read}
 use Rattle.blocks.specs.declared.Written.{Written}
 use Rattle.blocks.specs.declared.Written.TheVariants as Wrote
-use Rattle.blocks.specs.Numbers.{asFields, blockNumbers, readNumbers, writingBy, roomBy}
-use Rattle.blocks.proofs.Refused.{write-leaves, write-numbers}
+use Rattle.blocks.specs.Numbers.{as_fields, block_numbers, read_numbers, writing_by, room_by}
+use Rattle.blocks.proofs.Refused.{write_leaves, write_numbers}
 use Rattle.blocks_listing.specs.declared.Entry.{Entry}
-use Rattle.blocks_listing.specs.Listing.{Listing, ok, no, listingAnswer, entriesAfter}
+use Rattle.blocks_listing.specs.Listing.{Listing, ok, no, listing_answer, entries_after}
 use Rattle.acks.specs.declared.AckInfo.{AckInfo}
-use Rattle.acks.specs.Recorded.{trackerSize, trackerShort}
-use Rattle.acks.specs.AckBlocks.{ackWriting, ackRoom}
-use Rattle.acks.proofs.Refused.{ack-leaves}
+use Rattle.acks.specs.Recorded.{tracker_size, tracker_short}
+use Rattle.acks.specs.AckBlocks.{ack_writing, ack_room}
+use Rattle.acks.proofs.Refused.{ack_leaves}
 use Rattle.messages.specs.declared.Received.{Received}
-use Rattle.numbers_outcomes.specs.Outcomes.{outcome, writeOutcome, endOutcome, readOutcome}
-use Rattle.numbers_outcomes.specs.Listings.{listOutcome}
-use Rattle.numbers_outcomes.specs.Trackers.{newAnswer, newRecord, reportNumbers, reportPairs}
-use Rattle.numbers_outcomes.specs.Deliveries.{is_refused, deliveryOutcome, deliveryNumbers}
+use Rattle.numbers_outcomes.specs.Outcomes.{outcome, write_outcome, end_outcome, read_outcome}
+use Rattle.numbers_outcomes.specs.Listings.{list_outcome}
+use Rattle.numbers_outcomes.specs.Trackers.{new_answer, new_record, report_numbers, report_pairs}
+use Rattle.numbers_outcomes.specs.Deliveries.{is_refused, delivery_outcome, delivery_numbers}
 
-pub block-stays : (r : Read) (out : List ℕ) → ((readOutcome r).number ≡ 0 → ⊥) → readNumbers r out ≡ out
-block-stays r out = go r.extent
+pub block_stays : (r : Read) (out : List ℕ) → ((read_outcome r).number ≡ 0 → ⊥) → read_numbers r out ≡ out
+block_stays r out = go r.extent
   where
-    go : (x : Extent) → ((endOutcome x).number ≡ 0 → ⊥) → blockNumbers x r.fields r.bytes out ≡ out
+    go : (x : Extent) → ((end_outcome x).number ≡ 0 → ⊥) → block_numbers x r.fields r.bytes out ≡ out
     go (End.Ends kind size next) h = absurd (h refl)
     go (End.Refused number place) h = refl
 
-pub room-stays : (kind : ℕ) (v bytes room : List ℕ) → ((writeOutcome (writingBy kind v bytes (length room))).number ≡ 0 → ⊥)
-    → OneOf (30 ∷ 31 ∷ 32 ∷ []) (writeOutcome (writingBy kind v bytes (length room))).number × (roomBy kind v bytes room ≡ room)
-unfolding writingBy roomBy
-room-stays kind v bytes room = go (writingBy kind v bytes (length room)) refl
+pub room_stays : (kind : ℕ) (v bytes room : List ℕ) → ((write_outcome (writing_by kind v bytes (length room))).number ≡ 0 → ⊥)
+    → OneOf (30 ∷ 31 ∷ 32 ∷ []) (write_outcome (writing_by kind v bytes (length room))).number × (room_by kind v bytes room ≡ room)
+unfolding writing_by room_by
+room_stays kind v bytes room = go (writing_by kind v bytes (length room)) refl
   where
-    go : (w : Written) → writingBy kind v bytes (length room) ≡ w → ((writeOutcome w).number ≡ 0 → ⊥) → OneOf (30 ∷ 31 ∷ 32 ∷ []) (writeOutcome w).number × (roomBy kind v bytes room ≡ room)
+    go : (w : Written) → writing_by kind v bytes (length room) ≡ w → ((write_outcome w).number ≡ 0 → ⊥) → OneOf (30 ∷ 31 ∷ 32 ∷ []) (write_outcome w).number × (room_by kind v bytes room ≡ room)
     go (Wrote.Length n) e h = absurd (h refl)
-    go (Wrote.Refused m) e h = (write-numbers kind (asFields kind v) bytes (length room) m e, write-leaves kind (asFields kind v) bytes room m e)
+    go (Wrote.Refused m) e h = (write_numbers kind (as_fields kind v) bytes (length room) m e, write_leaves kind (as_fields kind v) bytes room m e)
 
-pub list-stays : (x : Listing) (l : List Entry) → ((listOutcome (listingAnswer x)).number ≡ 0 → ⊥) → entriesAfter x l ≡ l
-unfolding listOutcome
-list-stays (ok es) l h = absurd (h refl)
-list-stays (no m p) l h = refl
+pub list_stays : (x : Listing) (l : List Entry) → ((list_outcome (listing_answer x)).number ≡ 0 → ⊥) → entries_after x l ≡ l
+unfolding list_outcome
+list_stays (ok es) l h = absurd (h refl)
+list_stays (no m p) l h = refl
 
-pub new-stays : (r : List ℕ) → (newAnswer r ≡ 0 → ⊥) → (newAnswer r ≡ 59) × (newRecord r ≡ r)
-unfolding newAnswer newRecord
-new-stays r = go (trackerShort r)
+pub new_stays : (r : List ℕ) → (new_answer r ≡ 0 → ⊥) → (new_answer r ≡ 59) × (new_record r ≡ r)
+unfolding new_answer new_record
+new_stays r = go (tracker_short r)
   where
-    go : (b : Bool) → (◌≡◌ {A = ℕ} (cond b 59 0) 0 → ⊥) → ◌≡◌ {A = ℕ} (cond b 59 0) 59 × (cond b r (splice r 0 (replicate trackerSize 0)) ≡ r)
+    go : (b : Bool) → (◌≡◌ {A = ℕ} (cond b 59 0) 0 → ⊥) → ◌≡◌ {A = ℕ} (cond b 59 0) 59 × (cond b r (splice r 0 (replicate tracker_size 0)) ≡ r)
     go true h = (refl, refl)
     go false h = absurd (h refl)
 
-pub report-stays : (r : AckInfo) (out pairs : List ℕ) → (r.number ≡ 0 → ⊥) → (reportNumbers r out ≡ out) × (reportPairs r pairs ≡ pairs)
-unfolding reportNumbers reportPairs
-report-stays r out pairs h = (rw (ne_eqb r.number 0 h), rw (ne_eqb r.number 0 h))
+pub report_stays : (r : AckInfo) (out pairs : List ℕ) → (r.number ≡ 0 → ⊥) → (report_numbers r out ≡ out) × (report_pairs r pairs ≡ pairs)
+unfolding report_numbers report_pairs
+report_stays r out pairs h = (rw (ne_eqb r.number 0 h), rw (ne_eqb r.number 0 h))
 
-pub ack-room-stays : (r : AckInfo) (room : List ℕ) → ((writeOutcome (ackWriting r (length room))).number ≡ 0 → ⊥) → ackRoom r room ≡ room
-ack-room-stays r room = go (ackWriting r (length room)) refl
+pub ack_room_stays : (r : AckInfo) (room : List ℕ) → ((write_outcome (ack_writing r (length room))).number ≡ 0 → ⊥) → ack_room r room ≡ room
+ack_room_stays r room = go (ack_writing r (length room)) refl
   where
-    go : (w : Written) → ackWriting r (length room) ≡ w → ((writeOutcome w).number ≡ 0 → ⊥) → ackRoom r room ≡ room
+    go : (w : Written) → ack_writing r (length room) ≡ w → ((write_outcome w).number ≡ 0 → ⊥) → ack_room r room ≡ room
     go (Wrote.Length n) e h = absurd (h refl)
-    go (Wrote.Refused m) e h = ack-leaves r room m e
+    go (Wrote.Refused m) e h = ack_leaves r room m e
 
 -- a delivery's number is what was received
-pub delivery-number : (r : Received) → (deliveryOutcome r).number ≡ r.number
-unfolding deliveryOutcome
-delivery-number r = go (is_refused r)
+pub delivery_number : (r : Received) → (delivery_outcome r).number ≡ r.number
+unfolding delivery_outcome
+delivery_number r = go (is_refused r)
   where
     go : (b : Bool) → (cond b (outcome r.number r.start) (outcome r.number 0)).number ≡ r.number
     go true = refl
     go false = refl
 
 -- and its value, refused, the place of what was received
-pub delivery-place : (r : Received) → (r.number ≡ 0 → ⊥) → (r.number ≡ 60 → ⊥) → (deliveryOutcome r).value ≡ r.start
-unfolding deliveryOutcome
-delivery-place r kept done = rw (ne_eqb r.number 0 kept, ne_eqb r.number 60 done)
+pub delivery_place : (r : Received) → (r.number ≡ 0 → ⊥) → (r.number ≡ 60 → ⊥) → (delivery_outcome r).value ≡ r.start
+unfolding delivery_outcome
+delivery_place r kept done = rw (ne_eqb r.number 0 kept, ne_eqb r.number 60 done)
 
-pub told-stays : (r : Received) (told : List ℕ) → (r.number ≡ 0 → ⊥) → (r.number ≡ 60 → ⊥) → deliveryNumbers r told ≡ told
-unfolding deliveryNumbers
-told-stays r told kept done = rw (ne_eqb r.number 0 kept, ne_eqb r.number 60 done)
+pub told_stays : (r : Received) (told : List ℕ) → (r.number ≡ 0 → ⊥) → (r.number ≡ 60 → ⊥) → delivery_numbers r told ≡ told
+unfolding delivery_numbers
+told_stays r told kept done = rw (ne_eqb r.number 0 kept, ne_eqb r.number 60 done)

@@ -7,21 +7,21 @@ use lib.ListN.{length, replicate, length-replicate}
 use borrow.Author.Tests.{eq-eqb}
 use Rattle.wire.specs.Parts.{part, splice}
 use Rattle.wire.proofs.Parts.{part_same}
-use Rattle.acks.specs.Recorded.{trackerSize}
+use Rattle.acks.specs.Recorded.{tracker_size}
 use Rattle.acks.specs.declared.AckInfo.{AckInfo}
-use Rattle.acks.proofs.Recording.{is-long}
-use Rattle.numbers_outcomes.specs.Trackers.{newRecord, reportNumbers, reportPairs}
+use Rattle.acks.proofs.Recording.{is_long}
+use Rattle.numbers_outcomes.specs.Trackers.{new_record, report_numbers, report_pairs}
 
 -- a new record starts with 259 zeros
-pub new-zeros : (r : List ℕ) → trackerSize ≤ length r → part (newRecord r) 0 trackerSize ≡ replicate trackerSize 0
-unfolding newRecord
-new-zeros r h =
-    let z : length (replicate {A = ℕ} trackerSize 0) ≡ trackerSize = length-replicate {A = ℕ} trackerSize 0 in
-    rw (is-long r h)
-    (ap (part (splice r 0 (replicate trackerSize 0)) 0) (sym z) ∙ part_same r 0 (replicate trackerSize 0) (omega arith))
+pub new_zeros : (r : List ℕ) → tracker_size ≤ length r → part (new_record r) 0 tracker_size ≡ replicate tracker_size 0
+unfolding new_record
+new_zeros r h =
+    let z : length (replicate {A = ℕ} tracker_size 0) ≡ tracker_size = length-replicate {A = ℕ} tracker_size 0 in
+    rw (is_long r h)
+    (ap (part (splice r 0 (replicate tracker_size 0)) 0) (sym z) ∙ part_same r 0 (replicate tracker_size 0) (omega arith))
 
 -- a report that is not refused, as it is lent
-pub report-lent : (r : AckInfo) (out pairs : List ℕ) → r.number ≡ 0
-    → (reportNumbers r out ≡ r.through ∷ r.count ∷ r.len ∷ []) × (reportPairs r pairs ≡ r.pairs)
-unfolding reportNumbers reportPairs
-report-lent r out pairs z = (rw (eq-eqb r.number 0 z), rw (eq-eqb r.number 0 z))
+pub report_lent : (r : AckInfo) (out pairs : List ℕ) → r.number ≡ 0
+    → (report_numbers r out ≡ r.through ∷ r.count ∷ r.len ∷ []) × (report_pairs r pairs ≡ r.pairs)
+unfolding report_numbers report_pairs
+report_lent r out pairs z = (rw (eq-eqb r.number 0 z), rw (eq-eqb r.number 0 z))

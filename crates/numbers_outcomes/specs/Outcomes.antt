@@ -12,15 +12,15 @@ abbrev pub outcome : ℕ → ℕ → Outcome
 outcome n v = record { number = n; value = v }
 
 -- 0 and the length, or the refusal
-abbrev pub writeOutcome : Written → Outcome
-writeOutcome (Length n) = outcome 0 n
-writeOutcome (Refused m) = outcome m 0
+abbrev pub write_outcome : Written → Outcome
+write_outcome (Length n) = outcome 0 n
+write_outcome (Refused m) = outcome m 0
 
 -- 0 and the place after the block, or the refusal and the block's place
-abbrev pub endOutcome : Extent → Outcome
-endOutcome (End.Ends kind size next) = outcome 0 next
-endOutcome (End.Refused number place) = outcome number place
+abbrev pub end_outcome : Extent → Outcome
+end_outcome (End.Ends kind size next) = outcome 0 next
+end_outcome (End.Refused number place) = outcome number place
 
 -- the same of a reading
-abbrev pub readOutcome : Read → Outcome
-readOutcome r = endOutcome r.extent
+abbrev pub read_outcome : Read → Outcome
+read_outcome r = end_outcome r.extent

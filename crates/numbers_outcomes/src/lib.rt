@@ -1,6 +1,6 @@
 // What the C calls answer: 0 and a number, or a refusal.
 ghost use Rattle.std.specs.Prelude.{◌≡◌};
-ghost use Rattle.numbers_outcomes.specs.Outcomes.{writeOutcome};
+ghost use Rattle.numbers_outcomes.specs.Outcomes.{write_outcome};
 
 use blocks::Written;
 
@@ -13,7 +13,7 @@ pub struct Outcome {
 }
 
 pub fn outcome_of(w: Written) -> Outcome
-    ensures { result ≡ writeOutcome w }
+    ensures { result ≡ write_outcome w }
 {
     match w {
         Written::Length { count } => Outcome {

@@ -2,24 +2,24 @@
 use mathlib.Core.Path.{◌≡◌, sym, ◌∙◌}
 use mathlib.Core.List.{List}
 use Prim.Native.Nat.{ℕ}
-use Rattle.acks.specs.History.{among, received, highestSeen}
-use Rattle.acks.specs.Reporting.{reportOf}
-use Rattle.acks.proofs.Tracks.{held-is}
-use Rattle.acks.proofs.Faithful.{report-is}
-use Rattle.acks.proofs.Histories.{registered-is, tracked, among-newest, newest-settle}
-use Rattle.promises.specs.Acks.{reportAfter, Answered, Duplicates, DuplicatesAreNewest, SameReport}
+use Rattle.acks.specs.History.{among, received, highest_seen}
+use Rattle.acks.specs.Reporting.{report_of}
+use Rattle.acks.proofs.Tracks.{held_is}
+use Rattle.acks.proofs.Faithful.{report_is}
+use Rattle.acks.proofs.Histories.{registered_is, tracked, among_newest, newest_settle}
+use Rattle.promises.specs.Acks.{report_after, Answered, Duplicates, DuplicatesAreNewest, SameReport}
 
 pub answered : Answered
-answered calls n = registered-is (tracked calls) n
+answered calls n = registered_is (tracked calls) n
 
 pub duplicates : Duplicates
-duplicates calls n = held-is (tracked calls) n
+duplicates calls n = held_is (tracked calls) n
 
-pub duplicates-are-newest : DuplicatesAreNewest
-duplicates-are-newest calls n = duplicates calls n ∙ sym (among-newest calls n)
+pub duplicates_are_newest : DuplicatesAreNewest
+duplicates_are_newest calls n = duplicates calls n ∙ sym (among_newest calls n)
 
-pub reported : (calls : List ℕ) → reportAfter calls ≡ reportOf (highestSeen calls) (among (received calls))
-reported calls = report-is (tracked calls)
+pub reported : (calls : List ℕ) → report_after calls ≡ report_of (highest_seen calls) (among (received calls))
+reported calls = report_is (tracked calls)
 
-pub same-reports : SameReport
-same-reports a b kept = reported a ∙ newest-settle a b kept ∙ sym (reported b)
+pub same_reports : SameReport
+same_reports a b kept = reported a ∙ newest_settle a b kept ∙ sym (reported b)

@@ -6,56 +6,56 @@ use Prim.Native.Nat.{ℕ, zero, suc, ◌+◌, ◌≤◌, ◌<◌}
 use native.Mathlib.Nat.{not-suc-le-zero, le_of_suc-le-suc}
 use native.Mathlib.Omega.{arith}
 use lib.ListN.{length, get_or, take, set, replicate}
-use Rattle.reassembly.specs.Store.{is_held, allHeld}
-use Rattle.promises.specs.Demand3.{anyMark, allMarks, count}
+use Rattle.reassembly.specs.Store.{is_held, all_held}
+use Rattle.promises.specs.Demand3.{any_mark, all_marks, count}
 
 -- marks
-pub all-at : (bs : List Bool) (i : ℕ) → allMarks bs ≡ true → i < length bs → get_or bs i false ≡ true
-all-at [] i e h = absurd (not-suc-le-zero h)
-all-at (true ∷ bs) zero e h = refl
-all-at (true ∷ bs) (suc i) e h = all-at bs i e (le_of_suc-le-suc h)
-all-at (false ∷ bs) i e h = absurd (false≢true e)
+pub all_at : (bs : List Bool) (i : ℕ) → all_marks bs ≡ true → i < length bs → get_or bs i false ≡ true
+all_at [] i e h = absurd (not-suc-le-zero h)
+all_at (true ∷ bs) zero e h = refl
+all_at (true ∷ bs) (suc i) e h = all_at bs i e (le_of_suc-le-suc h)
+all_at (false ∷ bs) i e h = absurd (false≢true e)
 
-pub not-all-at : (bs : List Bool) (i : ℕ) → get_or bs i false ≡ false → i < length bs → allMarks bs ≡ false
-not-all-at [] i e h = absurd (not-suc-le-zero h)
-not-all-at (true ∷ bs) zero e h = absurd (true≢false e)
-not-all-at (true ∷ bs) (suc i) e h = not-all-at bs i e (le_of_suc-le-suc h)
-not-all-at (false ∷ bs) i e h = refl
+pub not_all_at : (bs : List Bool) (i : ℕ) → get_or bs i false ≡ false → i < length bs → all_marks bs ≡ false
+not_all_at [] i e h = absurd (not-suc-le-zero h)
+not_all_at (true ∷ bs) zero e h = absurd (true≢false e)
+not_all_at (true ∷ bs) (suc i) e h = not_all_at bs i e (le_of_suc-le-suc h)
+not_all_at (false ∷ bs) i e h = refl
 
-pub none-at : (bs : List Bool) (i : ℕ) → anyMark bs ≡ false → get_or bs i false ≡ false
-none-at [] i e = refl
-none-at (true ∷ bs) i e = absurd (true≢false e)
-none-at (false ∷ bs) zero e = refl
-none-at (false ∷ bs) (suc i) e = none-at bs i e
+pub none_at : (bs : List Bool) (i : ℕ) → any_mark bs ≡ false → get_or bs i false ≡ false
+none_at [] i e = refl
+none_at (true ∷ bs) i e = absurd (true≢false e)
+none_at (false ∷ bs) zero e = refl
+none_at (false ∷ bs) (suc i) e = none_at bs i e
 
-pub any-set : (bs : List Bool) (i : ℕ) → i < length bs → anyMark (set bs i true) ≡ true
-any-set [] i h = absurd (not-suc-le-zero h)
-any-set (b ∷ bs) zero h = refl
-any-set (true ∷ bs) (suc i) h = refl
-any-set (false ∷ bs) (suc i) h = any-set bs i (le_of_suc-le-suc h)
+pub any_set : (bs : List Bool) (i : ℕ) → i < length bs → any_mark (set bs i true) ≡ true
+any_set [] i h = absurd (not-suc-le-zero h)
+any_set (b ∷ bs) zero h = refl
+any_set (true ∷ bs) (suc i) h = refl
+any_set (false ∷ bs) (suc i) h = any_set bs i (le_of_suc-le-suc h)
 
 -- setting a mark that is set changes nothing
-pub set-mark : (bs : List Bool) (i : ℕ) → get_or bs i false ≡ true → set bs i true ≡ bs
-set-mark [] i e = refl
-set-mark (b ∷ bs) zero e = ap (λ (x : Bool). x ∷ bs) (sym e)
-set-mark (b ∷ bs) (suc i) e = ap (λ (x : List Bool). b ∷ x) (set-mark bs i e)
+pub set_mark : (bs : List Bool) (i : ℕ) → get_or bs i false ≡ true → set bs i true ≡ bs
+set_mark [] i e = refl
+set_mark (b ∷ bs) zero e = ap (λ (x : Bool). x ∷ bs) (sym e)
+set_mark (b ∷ bs) (suc i) e = ap (λ (x : List Bool). b ∷ x) (set_mark bs i e)
 
-pub any_at : (bs : List Bool) (i : ℕ) → get_or bs i false ≡ true → anyMark bs ≡ true
+pub any_at : (bs : List Bool) (i : ℕ) → get_or bs i false ≡ true → any_mark bs ≡ true
 any_at [] i e = absurd (false≢true e)
 any_at (true ∷ bs) i e = refl
 any_at (false ∷ bs) zero e = absurd (false≢true e)
 any_at (false ∷ bs) (suc i) e = any_at bs i e
 
-pub any-replicate : (n : ℕ) → anyMark (replicate n false) ≡ false
-any-replicate zero = refl
-any-replicate (suc n) = any-replicate n
+pub any_replicate : (n : ℕ) → any_mark (replicate n false) ≡ false
+any_replicate zero = refl
+any_replicate (suc n) = any_replicate n
 
 -- A table whose numbers are held as the marks say
-pub all_held : (t : List (List ℕ)) (bs : List Bool) → length bs ≤ length t → ((i : ℕ) → i < length bs → is_held (get_or t i []) ≡ get_or bs i false) → allHeld (take (length bs) t) ≡ allMarks bs
-all_held t [] h e = refl
-all_held [] (b ∷ bs) h e = absurd (not-suc-le-zero h)
-all_held (x ∷ t) (b ∷ bs) h e =
-    rw (e 0 (omega arith), all_held t bs (le_of_suc-le-suc h) (λ i k. e (suc i) (omega arith))) refl
+pub all_held_lem : (t : List (List ℕ)) (bs : List Bool) → length bs ≤ length t → ((i : ℕ) → i < length bs → is_held (get_or t i []) ≡ get_or bs i false) → all_held (take (length bs) t) ≡ all_marks bs
+all_held_lem t [] h e = refl
+all_held_lem [] (b ∷ bs) h e = absurd (not-suc-le-zero h)
+all_held_lem (x ∷ t) (b ∷ bs) h e =
+    rw (e 0 (omega arith), all_held_lem t bs (le_of_suc-le-suc h) (λ i k. e (suc i) (omega arith))) refl
 
 -- counting
 module _ {A : Type 0} (f : A → Bool) where

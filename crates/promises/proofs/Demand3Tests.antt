@@ -10,19 +10,19 @@ use lib.ListN.{length, get_or, get_or-eq_default}
 use lib.Dec.{eqb, ltb, leb}
 use borrow.Author.Tests.{ltb-true, ltb-false, leb-true, eqb-true, eq-eqb, not-true}
 use Rattle.wire.proofs.Tests.{and_both}
-use Rattle.reassembly.specs.Sizes.{messageSize}
+use Rattle.reassembly.specs.Sizes.{message_size}
 use Rattle.reassembly.specs.Memory.{remembers}
 use Rattle.reassembly.specs.Store.{total}
-use Rattle.promises.specs.Demand3.{Cut, Within, noCut, Event, deliver, sweepAt, Tally, noTally, begun, done, isOpen, Past, note, count, Allowed, Orderly, Schedule}
+use Rattle.promises.specs.Demand3.{Cut, Within, no_cut, Event, deliver, sweep_at, Tally, no_tally, begun, done, is_open, Past, note, count, Allowed, Orderly, Schedule}
 
 -- a test of all numbers below n
 abbrev pub all_below : ℕ → (ℕ → Bool) → Bool
 all_below zero f = true
 all_below (suc n) f = f n && all_below n f
 
-pub all-below : (n : ℕ) (f : ℕ → Bool) → all_below n f ≡ true → (i : ℕ) → i < n → f i ≡ true
-all-below zero f e i h = absurd (not-suc-le-zero h)
-all-below (suc n) f e i h = go (ℕ_discrete i n) (and_both (f n) (all_below n f) e) (λ d. all-below n f d i)
+pub all_below_lem : (n : ℕ) (f : ℕ → Bool) → all_below n f ≡ true → (i : ℕ) → i < n → f i ≡ true
+all_below_lem zero f e i h = absurd (not-suc-le-zero h)
+all_below_lem (suc n) f e i h = go (ℕ_discrete i n) (and_both (f n) (all_below n f) e) (λ d. all_below_lem n f d i)
   where
     go : Dec (i ≡ n) → (f n ≡ true) × (all_below n f ≡ true) → (all_below n f ≡ true → i < n → f i ≡ true) → f i ≡ true
     go (yes q) d ih = ap f q ∙ d.0
@@ -38,15 +38,15 @@ implied true q e h = e
 implied false q e h = absurd (false≢true h)
 
 -- a cut message is within the limits
-unfoldable pub withinTest : Cut → Bool
-withinTest c =
+unfoldable pub within_test : Cut → Bool
+within_test c =
     leb 2 (length c.pieces) && leb (length c.pieces) 128
     && all_below (length c.pieces) (λ i. leb 1 (length (get_or c.pieces i [])))
     && all_below (length c.pieces) (λ i. leb (length (get_or c.pieces i [])) 1500)
-    && leb (total c.pieces) messageSize
+    && leb (total c.pieces) message_size
 
-pub within_of : (c : Cut) → withinTest c ≡ true → Within c
-unfolding withinTest
+pub within_of : (c : Cut) → within_test c ≡ true → Within c
+unfolding within_test
 within_of c e =
     let a = and_both _ _ e in
     let b = and_both _ _ a.0 in
@@ -55,78 +55,78 @@ within_of c e =
     record {
       two = leb-true 2 (length c.pieces) f.0;
       most = leb-true (length c.pieces) 128 f.1;
-      some_bytes = λ i h. leb-true 1 (length (get_or c.pieces i [])) (all-below (length c.pieces) (λ i. leb 1 (length (get_or c.pieces i []))) d.1 i h);
-      few_bytes = λ i h. leb-true (length (get_or c.pieces i [])) 1500 (all-below (length c.pieces) (λ i. leb (length (get_or c.pieces i [])) 1500) b.1 i h);
-      in_all = leb-true (total c.pieces) messageSize a.1;
+      some_bytes = λ i h. leb-true 1 (length (get_or c.pieces i [])) (all_below_lem (length c.pieces) (λ i. leb 1 (length (get_or c.pieces i []))) d.1 i h);
+      few_bytes = λ i h. leb-true (length (get_or c.pieces i [])) 1500 (all_below_lem (length c.pieces) (λ i. leb (length (get_or c.pieces i [])) 1500) b.1 i h);
+      in_all = leb-true (total c.pieces) message_size a.1;
     }
 
-pub open-inside : (ts : List Tally) (c : ℕ) → isOpen (get_or ts c noTally) ≡ true → c < length ts
-unfolding isOpen begun
-open-inside ts c o = go (ltb c (length ts)) refl
+pub open_inside : (ts : List Tally) (c : ℕ) → is_open (get_or ts c no_tally) ≡ true → c < length ts
+unfolding is_open begun
+open_inside ts c o = go (ltb c (length ts)) refl
   where
     go : (b : Bool) → ltb c (length ts) ≡ b → c < length ts
     go true e = ltb-true c (length ts) e
     go false e =
-        let d : get_or ts c noTally ≡ noTally = get_or-eq_default ts noTally {n = c} (ltb-false c (length ts) e) in
-        absurd (false≢true (sym (ap isOpen d) ∙ o))
+        let d : get_or ts c no_tally ≡ no_tally = get_or-eq_default ts no_tally {n = c} (ltb-false c (length ts) e) in
+        absurd (false≢true (sym (ap is_open d) ∙ o))
 
 -- an event is allowed
-unfoldable pub allowedTest : List Cut → Past → Event → Bool
-allowedTest cs h (deliver c i second) =
-    ltb c (length cs) && ltb i (length (get_or cs c noCut).pieces)
-    && implies (done (get_or h.tallies c noTally)) (remembers h.remembered (get_or cs c noCut).id)
-    && implies (not (begun (get_or h.tallies c noTally))) (not (remembers h.remembered (get_or cs c noCut).id))
-allowedTest cs h (sweepAt second) = all_below (length h.tallies) (λ c. implies (isOpen (get_or h.tallies c noTally)) (ltb second ((get_or h.tallies c noTally).opened + 30)))
+unfoldable pub allowed_test : List Cut → Past → Event → Bool
+allowed_test cs h (deliver c i second) =
+    ltb c (length cs) && ltb i (length (get_or cs c no_cut).pieces)
+    && implies (done (get_or h.tallies c no_tally)) (remembers h.remembered (get_or cs c no_cut).id)
+    && implies (not (begun (get_or h.tallies c no_tally))) (not (remembers h.remembered (get_or cs c no_cut).id))
+allowed_test cs h (sweep_at second) = all_below (length h.tallies) (λ c. implies (is_open (get_or h.tallies c no_tally)) (ltb second ((get_or h.tallies c no_tally).opened + 30)))
 
-allowed_of : (cs : List Cut) (h : Past) (e : Event) → allowedTest cs h e ≡ true → Allowed cs h e
-unfolding allowedTest
+allowed_of : (cs : List Cut) (h : Past) (e : Event) → allowed_test cs h e ≡ true → Allowed cs h e
+unfolding allowed_test
 allowed_of cs h (deliver c i second) t =
     let a = and_both _ _ t in
     let b = and_both _ _ a.0 in
     let d = and_both _ _ b.0 in (
       ltb-true c (length cs) d.0,
-      ltb-true i (length (get_or cs c noCut).pieces) d.1,
-      implied (done (get_or h.tallies c noTally)) (remembers h.remembered (get_or cs c noCut).id) b.1,
-      λ e. not-true (remembers h.remembered (get_or cs c noCut).id)
-          (implied (not (begun (get_or h.tallies c noTally))) (not (remembers h.remembered (get_or cs c noCut).id)) a.1 (rw e refl)),
+      ltb-true i (length (get_or cs c no_cut).pieces) d.1,
+      implied (done (get_or h.tallies c no_tally)) (remembers h.remembered (get_or cs c no_cut).id) b.1,
+      λ e. not-true (remembers h.remembered (get_or cs c no_cut).id)
+          (implied (not (begun (get_or h.tallies c no_tally))) (not (remembers h.remembered (get_or cs c no_cut).id)) a.1 (rw e refl)),
     )
-allowed_of cs h (sweepAt second) t =
-    λ c o. ltb-true second ((get_or h.tallies c noTally).opened + 30)
-    (implied (isOpen (get_or h.tallies c noTally)) (ltb second ((get_or h.tallies c noTally).opened + 30))
-    (all-below (length h.tallies) (λ c. implies (isOpen (get_or h.tallies c noTally)) (ltb second ((get_or h.tallies c noTally).opened + 30))) t c (open-inside h.tallies c o)) o)
+allowed_of cs h (sweep_at second) t =
+    λ c o. ltb-true second ((get_or h.tallies c no_tally).opened + 30)
+    (implied (is_open (get_or h.tallies c no_tally)) (ltb second ((get_or h.tallies c no_tally).opened + 30))
+    (all_below_lem (length h.tallies) (λ c. implies (is_open (get_or h.tallies c no_tally)) (ltb second ((get_or h.tallies c no_tally).opened + 30))) t c (open_inside h.tallies c o)) o)
 
 -- where a is open, any open b with its id is a
-unfoldable pub ownTest : List Cut → List Tally → ℕ → Bool
-ownTest cs ts a =
-    implies (isOpen (get_or ts a noTally))
-    (all_below (length ts) (λ b. implies (isOpen (get_or ts b noTally)) (implies (eqb (get_or cs a noCut).id (get_or cs b noCut).id) (eqb a b))))
+unfoldable pub own_test : List Cut → List Tally → ℕ → Bool
+own_test cs ts a =
+    implies (is_open (get_or ts a no_tally))
+    (all_below (length ts) (λ b. implies (is_open (get_or ts b no_tally)) (implies (eqb (get_or cs a no_cut).id (get_or cs b no_cut).id) (eqb a b))))
 
 -- not more are open than there are slots, and no two open ones have one id
-unfoldable pub orderlyTest : ℕ → List Cut → List Tally → Bool
-orderlyTest slots cs ts = leb (count isOpen ts) slots && all_below (length ts) (λ a. ownTest cs ts a)
+unfoldable pub orderly_test : ℕ → List Cut → List Tally → Bool
+orderly_test slots cs ts = leb (count is_open ts) slots && all_below (length ts) (λ a. own_test cs ts a)
 
-orderly-of : (slots : ℕ) (cs : List Cut) (ts : List Tally) → orderlyTest slots cs ts ≡ true → Orderly slots cs ts
-unfolding orderlyTest ownTest
-orderly-of slots cs ts h =
+orderly_of : (slots : ℕ) (cs : List Cut) (ts : List Tally) → orderly_test slots cs ts ≡ true → Orderly slots cs ts
+unfolding orderly_test own_test
+orderly_of slots cs ts h =
     let d = and_both _ _ h in
-    record { at_most = leb-true (count isOpen ts) slots d.0; own-id = λ a b oa ob q. own a b oa ob q d.1 }
+    record { at_most = leb-true (count is_open ts) slots d.0; own_id = λ a b oa ob q. own a b oa ob q d.1 }
   where
-    own : (a b : ℕ) → isOpen (get_or ts a noTally) ≡ true → isOpen (get_or ts b noTally) ≡ true → (get_or cs a noCut).id ≡ (get_or cs b noCut).id
-        → all_below (length ts) (λ a. ownTest cs ts a) ≡ true → a ≡ b
+    own : (a b : ℕ) → is_open (get_or ts a no_tally) ≡ true → is_open (get_or ts b no_tally) ≡ true → (get_or cs a no_cut).id ≡ (get_or cs b no_cut).id
+        → all_below (length ts) (λ a. own_test cs ts a) ≡ true → a ≡ b
     own a b oa ob q e =
-        let r = implied _ _ (all-below (length ts) (λ a. ownTest cs ts a) e a (open-inside ts a oa)) oa in
-        let t = implied _ _ (all-below (length ts) (λ b. implies (isOpen (get_or ts b noTally)) (implies (eqb (get_or cs a noCut).id (get_or cs b noCut).id) (eqb a b))) r b (open-inside ts b ob)) ob in
-        eqb-true a b (implied _ _ t (eq-eqb (get_or cs a noCut).id (get_or cs b noCut).id q))
+        let r = implied _ _ (all_below_lem (length ts) (λ a. own_test cs ts a) e a (open_inside ts a oa)) oa in
+        let t = implied _ _ (all_below_lem (length ts) (λ b. implies (is_open (get_or ts b no_tally)) (implies (eqb (get_or cs a no_cut).id (get_or cs b no_cut).id) (eqb a b))) r b (open_inside ts b ob)) ob in
+        eqb-true a b (implied _ _ t (eq-eqb (get_or cs a no_cut).id (get_or cs b no_cut).id q))
 
 -- a schedule keeps the rules
-unfoldable pub scheduleTest : ℕ → ℕ → List Cut → Past → List Event → Bool
-scheduleTest slots keep cs h [] = all_below (length cs) (λ c. done (get_or h.tallies c noTally))
-scheduleTest slots keep cs h (e ∷ es) = allowedTest cs h e && orderlyTest slots cs (note keep cs h e).tallies && scheduleTest slots keep cs (note keep cs h e) es
+unfoldable pub schedule_test : ℕ → ℕ → List Cut → Past → List Event → Bool
+schedule_test slots keep cs h [] = all_below (length cs) (λ c. done (get_or h.tallies c no_tally))
+schedule_test slots keep cs h (e ∷ es) = allowed_test cs h e && orderly_test slots cs (note keep cs h e).tallies && schedule_test slots keep cs (note keep cs h e) es
 
-pub schedule-of : (slots keep : ℕ) (cs : List Cut) (es : List Event) (h : Past) → scheduleTest slots keep cs h es ≡ true → Schedule slots keep cs h es
-unfolding scheduleTest
-schedule-of slots keep cs [] h t = λ c k. all-below (length cs) (λ c. done (get_or h.tallies c noTally)) t c k
-schedule-of slots keep cs (e ∷ es) h t =
-    let a : ((allowedTest cs h e && orderlyTest slots cs (note keep cs h e).tallies) ≡ true) × (scheduleTest slots keep cs (note keep cs h e) es ≡ true) = and_both _ _ t in
-    let b : (allowedTest cs h e ≡ true) × (orderlyTest slots cs (note keep cs h e).tallies ≡ true) = and_both _ _ a.0 in
-    (allowed_of cs h e b.0, orderly-of slots cs (note keep cs h e).tallies b.1, schedule-of slots keep cs es (note keep cs h e) a.1)
+pub schedule_of : (slots keep : ℕ) (cs : List Cut) (es : List Event) (h : Past) → schedule_test slots keep cs h es ≡ true → Schedule slots keep cs h es
+unfolding schedule_test
+schedule_of slots keep cs [] h t = λ c k. all_below_lem (length cs) (λ c. done (get_or h.tallies c no_tally)) t c k
+schedule_of slots keep cs (e ∷ es) h t =
+    let a : ((allowed_test cs h e && orderly_test slots cs (note keep cs h e).tallies) ≡ true) × (schedule_test slots keep cs (note keep cs h e) es ≡ true) = and_both _ _ t in
+    let b : (allowed_test cs h e ≡ true) × (orderly_test slots cs (note keep cs h e).tallies ≡ true) = and_both _ _ a.0 in
+    (allowed_of cs h e b.0, orderly_of slots cs (note keep cs h e).tallies b.1, schedule_of slots keep cs es (note keep cs h e) a.1)

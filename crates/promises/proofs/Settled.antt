@@ -3,11 +3,11 @@ use Rattle.promises.specs.Settled.{SettledOnlyIfRegistered, ReportsTaken, FarIsT
 use Rattle.sender.proofs.Channel as Channel
 
 -- this holds whatever arrives: the first premise is needed where no report may be refused, and where the far tracker's numbers have four bytes
-pub settled-only-if-registered : SettledOnlyIfRegistered
-settled-only-if-registered run ours theirs = Channel.settled-registered run theirs
+pub settled_only_if_registered : SettledOnlyIfRegistered
+settled_only_if_registered run ours theirs = Channel.settled_registered run theirs
 
-pub reports-taken : ReportsTaken
-reports-taken = Channel.reports-taken
+pub reports_taken : ReportsTaken
+reports_taken = Channel.reports_taken
 
-pub far-is-tracker : FarIsTracker
-far-is-tracker = Channel.far-is-tracker
+pub far_is_tracker : FarIsTracker
+far_is_tracker = Channel.far_is_tracker

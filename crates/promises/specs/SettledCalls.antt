@@ -1,69 +1,69 @@
 -- The sender together with the far tracker, of the C calls on lent bytes at both ends: packets and Ack blocks go over a channel that loses, repeats and reorders.
--- `givenThere`, `settledThere`, `registerThere`, `ackWriting` and `ackRoom`, `readAt` are what the contracts of the calls say.
+-- `given_there`, `settled_there`, `register_there`, `ack_writing` and `ack_room`, `read_at` are what the contracts of the calls say.
 use Rattle.std.specs.Prelude.{◌≡◌, Bool, true, false, ◌&&◌, ◌||◌, List, [], ◌∷◌, ℕ, ◌≤◌, ◌<◌, eqb, length, drop}
 use Rattle.wire.specs.Parts.{part}
 use Rattle.blocks.specs.declared.Part.{Part}
-use Rattle.blocks.specs.Names.{ackFields}
-use Rattle.blocks.specs.Reading.{block_read, readAt}
+use Rattle.blocks.specs.Names.{ack_fields}
+use Rattle.blocks.specs.Reading.{block_read, read_at}
 use Rattle.acks.specs.History.{among}
 use Rattle.acks.specs.declared.AckInfo.{AckInfo}
-use Rattle.acks.specs.Recorded.{registerThere, recordAll, reportThere}
-use Rattle.acks.specs.AckBlocks.{ackWriting, ackRoom}
-use Rattle.numbers_outcomes.specs.Outcomes.{writeOutcome}
+use Rattle.acks.specs.Recorded.{register_there, record_all, report_there}
+use Rattle.acks.specs.AckBlocks.{ack_writing, ack_room}
+use Rattle.numbers_outcomes.specs.Outcomes.{write_outcome}
 use Rattle.sender.specs.Sender.{send, resend, ack}
 use Rattle.sender.specs.Channel.{Event, call, arrives, calls_of, arrivals, Reported}
-use Rattle.sender.specs.Recorded.{answerThere, givenThere, settledThere, SecondsInWidth, recordBy}
+use Rattle.sender.specs.Recorded.{answer_there, given_there, settled_there, SecondsInWidth, record_by}
 use Rattle.promises.specs.Demand2Calls.{Fresh}
 use Rattle.promises.specs.PartitionCalls.{FreshSender}
 
 -- ---- the two records after a run, and what the calls on them answered
 -- the sender's
-abbrev pub nearAfter : List ℕ → List Event → List ℕ
-nearAfter near run = recordBy near (calls_of run)
+abbrev pub near_after : List ℕ → List Event → List ℕ
+near_after near run = record_by near (calls_of run)
 
 -- the far tracker's
-abbrev pub farAfter : List ℕ → List Event → List ℕ
-farAfter far run = recordAll far (arrivals run)
+abbrev pub far_after : List ℕ → List Event → List ℕ
+far_after far run = record_all far (arrivals run)
 
 -- what the far tracker reports then
-abbrev pub reportAt : List ℕ → List Event → AckInfo
-reportAt far run = reportThere (farAfter far run)
+abbrev pub report_at : List ℕ → List Event → AckInfo
+report_at far run = report_there (far_after far run)
 
 -- whether a call gave out n, by the number that it returned; 0 counts as given out
-unfoldable pub gaveOut : List ℕ → List Event → ℕ → Bool
-gaveOut near [] n = eqb n 0
-gaveOut near (call c ∷ past) n = eqb n (givenThere (nearAfter near past) c) || gaveOut near past n
-gaveOut near (arrives k ∷ past) n = gaveOut near past n
+unfoldable pub gave_out : List ℕ → List Event → ℕ → Bool
+gave_out near [] n = eqb n 0
+gave_out near (call c ∷ past) n = eqb n (given_there (near_after near past) c) || gave_out near past n
+gave_out near (arrives k ∷ past) n = gave_out near past n
 
 -- whether strawhub_sender_ack told n as settled
-unfoldable pub toldSettled : List ℕ → List Event → ℕ → Bool
-toldSettled near [] n = false
-toldSettled near (call c ∷ past) n = among (settledThere (nearAfter near past) c) n || toldSettled near past n
-toldSettled near (arrives k ∷ past) n = toldSettled near past n
+unfoldable pub told_settled : List ℕ → List Event → ℕ → Bool
+told_settled near [] n = false
+told_settled near (call c ∷ past) n = among (settled_there (near_after near past) c) n || told_settled near past n
+told_settled near (arrives k ∷ past) n = told_settled near past n
 
 -- whether strawhub_tracker_register had answered 0 to n
-unfoldable pub registeredThere : List ℕ → List Event → ℕ → Bool
-registeredThere far [] n = false
-registeredThere far (call c ∷ past) n = registeredThere far past n
-registeredThere far (arrives k ∷ past) n = (eqb n k && eqb (registerThere (farAfter far past) k) 0) || registeredThere far past n
+unfoldable pub registered_there : List ℕ → List Event → ℕ → Bool
+registered_there far [] n = false
+registered_there far (call c ∷ past) n = registered_there far past n
+registered_there far (arrives k ∷ past) n = (eqb n k && eqb (register_there (far_after far past) k) 0) || registered_there far past n
 
 -- ---- the channel
 -- the far tracker is handed only numbers that the sender's calls had given out
 abbrev pub OnlyGivenOut : List ℕ → List Event → Type 0
 OnlyGivenOut near [] = Unit
 OnlyGivenOut near (call c ∷ past) = OnlyGivenOut near past
-OnlyGivenOut near (arrives n ∷ past) = (gaveOut near past n ≡ true) × OnlyGivenOut near past
+OnlyGivenOut near (arrives n ∷ past) = (gave_out near past n ≡ true) × OnlyGivenOut near past
 
 -- what is fed in was read from an Ack block that strawhub_tracker_ack_block wrote at the far end, so many events ago
 pub record Carried (far : List ℕ) (past : List Event) (through count : ℕ) (pairs : List ℕ) : Type 0 where
   pub ago : ℕ
   pub room : List ℕ
-  pub wrote : (writeOutcome (ackWriting (reportAt far (drop ago past)) (length room))).number ≡ 0
+  pub wrote : (write_outcome (ack_writing (report_at far (drop ago past)) (length room))).number ≡ 0
   pub at : Part
   pub size : ℕ
   pub next : ℕ
-  pub read : readAt (ackRoom (reportAt far (drop ago past)) room) 0 ≡ block_read 12 size next (ackFields through count) at
-  pub fed : pairs ≡ part (ackRoom (reportAt far (drop ago past)) room) at.start at.len
+  pub read : read_at (ack_room (report_at far (drop ago past)) room) 0 ≡ block_read 12 size next (ack_fields through count) at
+  pub fed : pairs ≡ part (ack_room (report_at far (drop ago past)) room) at.start at.len
 
 -- every ack fed in was. That every Ack block comes, or once, or in turn, is not said
 abbrev pub AcksCarried : List ℕ → List Event → Type 0
@@ -81,7 +81,7 @@ SettledOnlyIfRegisteredCalls =
     → (run : List Event) → SecondsInWidth (calls_of run)
     → OnlyGivenOut near run
     → AcksCarried far run
-    → (n : ℕ) → 0 < n → toldSettled near run n ≡ true → registeredThere far run n ≡ true
+    → (n : ℕ) → 0 < n → told_settled near run n ≡ true → registered_there far run n ≡ true
 
 -- and no Ack block of it is refused, whenever it is fed in
 abbrev pub AckBlocksTaken : Type 0
@@ -90,7 +90,7 @@ AckBlocksTaken =
     → (run : List Event) → SecondsInWidth (calls_of run)
     → OnlyGivenOut near run
     → (through count : ℕ) (pairs : List ℕ)
-    → Carried far run through count pairs → answerThere (nearAfter near run) (ack through count pairs) ≡ 0
+    → Carried far run through count pairs → answer_there (near_after near run) (ack through count pairs) ≡ 0
 
 -- and every report of it is carried in a room of 262 bytes: the premise on Ack blocks leaves out none
 abbrev pub ReportsCarried : Type 0

@@ -11,155 +11,155 @@ use lib.ListN.{length, get_or, take, set}
 use lib.Seq.{get_or-set_same, get_or-set_other}
 use borrow.Author.Tests.{lt-ltb, ltb-true, ltb-false}
 use Rattle.wire.specs.Parts.{part}
-use Rattle.wire.proofs.Parts.{part_same, part-before}
-use Rattle.reassembly.specs.Sizes.{messageSize, shareRoom, shareSize}
+use Rattle.wire.proofs.Parts.{part_same, part_before}
+use Rattle.reassembly.specs.Sizes.{message_size, share_room, share_size}
 use Rattle.reassembly.specs.declared.Head.{Head}
 use Rattle.reassembly.specs.declared.Entry.{Entry}
 use Rattle.reassembly.specs.declared.Label.{Label}
-use Rattle.reassembly.specs.Store.{is_held, allHeld, total, complete}
-use Rattle.reassembly.specs.Record.{headAt, entry_at, withEntry, outside, roomOf, piece_at}
-use Rattle.reassembly.specs.Judge.{pick, misfits, moreOf, grownBy, is_complete}
-use Rattle.reassembly.specs.Joining.{outsideOr, joinsOutside}
-use Rattle.reassembly.specs.Calls.{keptRec, keptRoom}
-use Rattle.reassembly.specs.Stands.{table_at, messageWith, held_of, Fine}
-use Rattle.reassembly.proofs.Table.{total-set, held-of-length}
+use Rattle.reassembly.specs.Store.{is_held, all_held, total, complete}
+use Rattle.reassembly.specs.Record.{head_at, entry_at, with_entry, outside, room_of, piece_at}
+use Rattle.reassembly.specs.Judge.{pick, misfits, more_of, grown_by, is_complete}
+use Rattle.reassembly.specs.Joining.{outside_or, joins_outside}
+use Rattle.reassembly.specs.Calls.{kept_rec, kept_room}
+use Rattle.reassembly.specs.Stands.{table_at, message_with, held_of, Fine}
+use Rattle.reassembly.proofs.Table.{total_set, held_of_length}
 use Rattle.reassembly.proofs.Fields.{HeadFits}
-use Rattle.reassembly.proofs.Joined.{length-room, le-inside, inside-length, none-all}
-use Rattle.wire.proofs.Series.{length-series, getD-series, series-set}
-use Rattle.reassembly.proofs.Held.{held-length, not-held, held-le, held-set, all-upto}
-use Rattle.reassembly.proofs.Written.{length-head, head-same, head-entry, length-entry, entry-same, entry-beside, kept-room}
+use Rattle.reassembly.proofs.Joined.{length_room, le_inside, inside_length, none_all}
+use Rattle.wire.proofs.Series.{length_series, get_d_series, series_set}
+use Rattle.reassembly.proofs.Held.{held_length, not_held, held_le, held_set, all_upto}
+use Rattle.reassembly.proofs.Written.{length_head, head_same, head_entry, length_entry, entry_same, entry_beside, kept_room_lem}
 
-pub length-table : (rec room : List ℕ) (i : ℕ) → length (table_at rec room i) ≡ 128
+pub length_table : (rec room : List ℕ) (i : ℕ) → length (table_at rec room i) ≡ 128
 unfolding table_at
-length-table rec room i = length-series (piece_at rec room i) 0 128
+length_table rec room i = length_series (piece_at rec room i) 0 128
 
-pub table-at : (rec room : List ℕ) (i k : ℕ) → k < 128 → get_or (table_at rec room i) k [] ≡ piece_at rec room i k
+pub table_at_lem : (rec room : List ℕ) (i k : ℕ) → k < 128 → get_or (table_at rec room i) k [] ≡ piece_at rec room i k
 unfolding table_at
-table-at rec room i k h = getD-series (piece_at rec room i) 128 k [] h
+table_at_lem rec room i k h = get_d_series (piece_at rec room i) 128 k [] h
 
-module _ (h : Head) (rec room : List ℕ) (i : ℕ) (f : Fine h rec room i) (long : shareRoom ≤ length room) (hi : i < 4) where
+module _ (h : Head) (rec room : List ℕ) (i : ℕ) (f : Fine h rec room i) (long : share_room ≤ length room) (hi : i < 4) where
   -- no entry names bytes outside
-  pub never-outside : (k : ℕ) → k < 128 → outside (entry_at rec i k) ≡ false
-  never-outside k hk = le-inside (entry_at rec i k) (omega (arith, f.inside k hk, f.small))
+  pub never_outside : (k : ℕ) → k < 128 → outside (entry_at rec i k) ≡ false
+  never_outside k hk = le_inside (entry_at rec i k) (omega (arith, f.inside k hk, f.small))
 
-  pub joins-inside : (m n : ℕ) → n ≤ 128 → joinsOutside rec i m n ≡ false
-  unfolding joinsOutside outsideOr
-  joins-inside m n hn = none-all (outsideOr rec i m) n (λ k hk. go k hk (eqb k m))
+  pub joins_inside : (m n : ℕ) → n ≤ 128 → joins_outside rec i m n ≡ false
+  unfolding joins_outside outside_or
+  joins_inside m n hn = none_all (outside_or rec i m) n (λ k hk. go k hk (eqb k m))
     where
       go : (k : ℕ) → k < n → (b : Bool) → cond b false (outside (entry_at rec i k)) ≡ false
       go k hk true = refl
-      go k hk false = never-outside k (omega arith)
+      go k hk false = never_outside k (omega arith)
 
   -- a piece is as long as its entry says
-  pub piece-length : (k : ℕ) → k < 128 → length (piece_at rec room i k) ≡ (entry_at rec i k).len
-  piece-length k hk = inside-length rec room i k long hi (never-outside k hk)
+  pub piece_length : (k : ℕ) → k < 128 → length (piece_at rec room i k) ≡ (entry_at rec i k).len
+  piece_length k hk = inside_length rec room i k long hi (never_outside k hk)
 
-  pub held-is : (k : ℕ) → k < 128 → is_held (get_or (table_at rec room i) k []) ≡ not (eqb (entry_at rec i k).len 0)
-  held-is k hk = ap is_held (table-at rec room i k hk) ∙ held-length (piece_at rec room i k) ∙ ap (λ (n : ℕ). not (eqb n 0)) (piece-length k hk)
+  pub held_is : (k : ℕ) → k < 128 → is_held (get_or (table_at rec room i) k []) ≡ not (eqb (entry_at rec i k).len 0)
+  held_is k hk = ap is_held (table_at_lem rec room i k hk) ∙ held_length (piece_at rec room i k) ∙ ap (λ (n : ℕ). not (eqb n 0)) (piece_length k hk)
 
   -- counting tells whether the message is complete
-  pub complete-is : complete (messageWith h rec room i) ≡ is_complete h
-  unfolding complete messageWith is_complete
-  complete-is = go (ltb 0 h.last) refl
+  pub complete_is : complete (message_with h rec room i) ≡ is_complete h
+  unfolding complete message_with is_complete
+  complete_is = go (ltb 0 h.last) refl
     where
       go : (b : Bool) → ltb 0 h.last ≡ b
-          → (ltb 0 h.last && allHeld (take (suc h.last) (table_at rec room i))) ≡ (ltb 0 h.last && ltb h.last 128 && eqb h.count (h.last + 1))
+          → (ltb 0 h.last && all_held (take (suc h.last) (table_at rec room i))) ≡ (ltb 0 h.last && ltb h.last 128 && eqb h.count (h.last + 1))
       go true e =
-          let l : allHeld (take (suc h.last) (table_at rec room i)) ≡ eqb (held_of (table_at rec room i)) (h.last + 1)
-          = all-upto (table_at rec room i) h.last (omega (arith, f.last-small, length-table rec room i)) (f.lastmost (ltb-true 0 h.last e)) in
+          let l : all_held (take (suc h.last) (table_at rec room i)) ≡ eqb (held_of (table_at rec room i)) (h.last + 1)
+          = all_upto (table_at rec room i) h.last (omega (arith, f.last_small, length_table rec room i)) (f.lastmost (ltb-true 0 h.last e)) in
           let c : eqb (held_of (table_at rec room i)) (h.last + 1) ≡ eqb h.count (h.last + 1) = ap (λ (z : ℕ). eqb z (h.last + 1)) (sym f.counted) in
-          rw (e, lt-ltb h.last 128 f.last-small, l ∙ c) refl
+          rw (e, lt-ltb h.last 128 f.last_small, l ∙ c) refl
       go false e = rw e refl
 
 -- A piece v is kept as number l .number, which was not held and does not misfit.
-module _ (h : Head) (rec room : List ℕ) (i : ℕ) (f : Fine h rec room i) (rlong : shareSize ≤ length rec) (long : shareRoom ≤ length room) (hi : i < 4)
-    (l : Label) (v : List ℕ) (hn : l.number < 128) (some_bytes : 1 ≤ length v) (few : length v ≤ 1500) (fits : h.total + length v ≤ messageSize)
+module _ (h : Head) (rec room : List ℕ) (i : ℕ) (f : Fine h rec room i) (rlong : share_size ≤ length rec) (long : share_room ≤ length room) (hi : i < 4)
+    (l : Label) (v : List ℕ) (hn : l.number < 128) (some_bytes : 1 ≤ length v) (few : length v ≤ 1500) (fits : h.total + length v ≤ message_size)
     (lx : l.expires < 4294967296)
     (free : is_held (get_or (table_at rec room i) l.number []) ≡ false) (ok : misfits h l ≡ false) where
   abbrev g : Head
-  g = grownBy h l (length v)
+  g = grown_by h l (length v)
 
   abbrev e : Entry
   e = record { place = h.total; len = length v }
 
   abbrev rec₁ : List ℕ
-  rec₁ = withEntry rec i l.number e
+  rec₁ = with_entry rec i l.number e
 
   abbrev rec' : List ℕ
-  rec' = keptRec rec i l.number h.total (length v) g
+  rec' = kept_rec rec i l.number h.total (length v) g
 
   abbrev room' : List ℕ
-  room' = keptRoom room i h.total v
+  room' = kept_room room i h.total v
 
-  long₁ : shareSize ≤ length rec₁
-  long₁ = omega (arith, length-entry rec rlong i hi l.number hn e)
+  long₁ : share_size ≤ length rec₁
+  long₁ = omega (arith, length_entry rec rlong i hi l.number hn e)
 
-  pick-below : (b : Bool) (x y m : ℕ) → x < m → y < m → pick b x y < m
-  pick-below true x y m p q = p
-  pick-below false x y m p q = q
+  pick_below : (b : Bool) (x y m : ℕ) → x < m → y < m → pick b x y < m
+  pick_below true x y m p q = p
+  pick_below false x y m p q = q
 
-  head-fits : HeadFits g
-  unfolding grownBy
-  head-fits = record { id = f.id; opened = f.opened; expires = pick-below (eqb l.number 0) l.expires h.expires 4294967296 lx f.expires; total = omega arith }
+  head_fits : HeadFits g
+  unfolding grown_by
+  head_fits = record { id = f.id; opened = f.opened; expires = pick_below (eqb l.number 0) l.expires h.expires 4294967296 lx f.expires; total = omega arith }
 
-  pub kept-long : length rec' ≡ length rec
-  unfolding keptRec
-  kept-long =
-      length-head rec₁ long₁ i hi g
-      ∙ length-entry rec rlong i hi l.number hn e
+  pub kept_long : length rec' ≡ length rec
+  unfolding kept_rec
+  kept_long =
+      length_head rec₁ long₁ i hi g
+      ∙ length_entry rec rlong i hi l.number hn e
 
-  pub kept-head : headAt rec' i ≡ g
-  unfolding keptRec
-  kept-head = head-same rec₁ long₁ i hi g head-fits
+  pub kept_head : head_at rec' i ≡ g
+  unfolding kept_rec
+  kept_head = head_same rec₁ long₁ i hi g head_fits
 
   entry_new : entry_at rec' i l.number ≡ e
-  unfolding keptRec
+  unfolding kept_rec
   entry_new =
-      head-entry rec₁ long₁ i hi g i l.number
-      ∙ entry-same rec rlong i hi l.number hn e f.small (omega arith)
+      head_entry rec₁ long₁ i hi g i l.number
+      ∙ entry_same rec rlong i hi l.number hn e f.small (omega arith)
 
   entry_old : (k : ℕ) → k ≢ l.number → entry_at rec' i k ≡ entry_at rec i k
-  unfolding keptRec
+  unfolding kept_rec
   entry_old k q =
-      head-entry rec₁ long₁ i hi g i k
-      ∙ entry-beside rec rlong i hi l.number hn e k q
+      head_entry rec₁ long₁ i hi g i k
+      ∙ entry_beside rec rlong i hi l.number hn e k q
 
-  lr : length (roomOf room i) ≡ messageSize
-  lr = length-room room i long hi
+  lr : length (room_of room i) ≡ message_size
+  lr = length_room room i long hi
 
-  piece-new : piece_at rec' room' i l.number ≡ v
+  piece_new : piece_at rec' room' i l.number ≡ v
   unfolding piece_at
-  piece-new =
-      ap (λ (x : Entry). part (roomOf (keptRoom room i h.total v) i) x.place x.len) entry_new
-      ∙ ap (λ (z : List ℕ). part z h.total (length v)) (kept-room room long i hi h.total v fits)
-      ∙ part_same (roomOf room i) h.total v (omega (arith, lr))
+  piece_new =
+      ap (λ (x : Entry). part (room_of (kept_room room i h.total v) i) x.place x.len) entry_new
+      ∙ ap (λ (z : List ℕ). part z h.total (length v)) (kept_room_lem room long i hi h.total v fits)
+      ∙ part_same (room_of room i) h.total v (omega (arith, lr))
 
-  piece-old : (k : ℕ) → k < 128 → k ≢ l.number → piece_at rec' room' i k ≡ piece_at rec room i k
+  piece_old : (k : ℕ) → k < 128 → k ≢ l.number → piece_at rec' room' i k ≡ piece_at rec room i k
   unfolding piece_at
-  piece-old k hk q =
-      ap (λ (x : Entry). part (roomOf (keptRoom room i h.total v) i) x.place x.len) (entry_old k q)
-      ∙ ap (λ (z : List ℕ). part z (entry_at rec i k).place (entry_at rec i k).len) (kept-room room long i hi h.total v fits)
-      ∙ part-before (roomOf room i) h.total v (omega (arith, lr)) (entry_at rec i k).place (entry_at rec i k).len (f.inside k hk)
+  piece_old k hk q =
+      ap (λ (x : Entry). part (room_of (kept_room room i h.total v) i) x.place x.len) (entry_old k q)
+      ∙ ap (λ (z : List ℕ). part z (entry_at rec i k).place (entry_at rec i k).len) (kept_room_lem room long i hi h.total v fits)
+      ∙ part_before (room_of room i) h.total v (omega (arith, lr)) (entry_at rec i k).place (entry_at rec i k).len (f.inside k hk)
 
   pub table_kept : table_at rec' room' i ≡ set (table_at rec room i) l.number v
   unfolding table_at
-  table_kept = series-set (piece_at rec room i) (piece_at rec' room' i) 128 l.number v [] hn piece-new piece-old
+  table_kept = series_set (piece_at rec room i) (piece_at rec' room' i) 128 l.number v [] hn piece_new piece_old
 
   -- what is held now: the number, and what was held
-  was-held : (k : ℕ) → k ≢ l.number → is_held (get_or (table_at rec' room' i) k []) ≡ true → is_held (get_or (table_at rec room i) k []) ≡ true
-  was-held k q e' = ap is_held (sym (ap (λ (t : List (List ℕ)). get_or t k []) table_kept ∙ get_or-set_other (table_at rec room i) l.number k v [] q)) ∙ e'
+  was_held : (k : ℕ) → k ≢ l.number → is_held (get_or (table_at rec' room' i) k []) ≡ true → is_held (get_or (table_at rec room i) k []) ≡ true
+  was_held k q e' = ap is_held (sym (ap (λ (t : List (List ℕ)). get_or t k []) table_kept ∙ get_or-set_other (table_at rec room i) l.number k v [] q)) ∙ e'
 
-  held-now : is_held (get_or (table_at rec' room' i) l.number []) ≡ true
-  held-now =
-      ap is_held (ap (λ (t : List (List ℕ)). get_or t l.number []) table_kept ∙ get_or-set_same (table_at rec room i) l.number v [] (omega (arith, length-table rec room i)))
-      ∙ held-of-length v some_bytes
+  held_now : is_held (get_or (table_at rec' room' i) l.number []) ≡ true
+  held_now =
+      ap is_held (ap (λ (t : List (List ℕ)). get_or t l.number []) table_kept ∙ get_or-set_same (table_at rec room i) l.number v [] (omega (arith, length_table rec room i)))
+      ∙ held_of_length v some_bytes
 
-  held-still : (k : ℕ) → k ≢ l.number → is_held (get_or (table_at rec room i) k []) ≡ true → is_held (get_or (table_at rec' room' i) k []) ≡ true
-  held-still k q e' = ap is_held (ap (λ (t : List (List ℕ)). get_or t k []) table_kept ∙ get_or-set_other (table_at rec room i) l.number k v [] q) ∙ e'
+  held_still : (k : ℕ) → k ≢ l.number → is_held (get_or (table_at rec room i) k []) ≡ true → is_held (get_or (table_at rec' room' i) k []) ≡ true
+  held_still k q e' = ap is_held (ap (λ (t : List (List ℕ)). get_or t k []) table_kept ∙ get_or-set_other (table_at rec room i) l.number k v [] q) ∙ e'
 
   -- what a piece that does not misfit says
-  fit-above : 0 < h.last → l.number ≤ h.last
-  fit-above p = go (ltb h.last l.number) refl
+  fit_above : 0 < h.last → l.number ≤ h.last
+  fit_above p = go (ltb h.last l.number) refl
     where
       go : (b : Bool) → ltb h.last l.number ≡ b → l.number ≤ h.last
       go false q = ltb-false h.last l.number q
@@ -167,8 +167,8 @@ module _ (h : Head) (rec room : List ℕ) (i : ℕ) (f : Fine h rec room i) (rlo
           let t : misfits h l ≡ true = unfold misfits in (rw (lt-ltb 0 h.last p, q) refl) in
           absurd (true≢false (sym t ∙ ok))
 
-  fit-top : l.last ≡ true → h.top ≤ l.number
-  fit-top p = go (ltb l.number h.top) refl
+  fit_top : l.last ≡ true → h.top ≤ l.number
+  fit_top p = go (ltb l.number h.top) refl
     where
       either : (a b : Bool) → (a || (true && (true || b))) ≡ true
       either true b = refl
@@ -180,52 +180,52 @@ module _ (h : Head) (rec room : List ℕ) (i : ℕ) (f : Fine h rec room i) (rlo
           let t : misfits h l ≡ true = unfold misfits in (rw (p, q) (either (ltb 0 h.last && ltb h.last l.number) (ltb 0 h.last))) in
           absurd (true≢false (sym t ∙ ok))
 
-  counts : moreOf h.count ≡ held_of (table_at rec' room' i)
-  unfolding moreOf
+  counts : more_of h.count ≡ held_of (table_at rec' room' i)
+  unfolding more_of
   counts =
       let a : held_of (set (table_at rec room i) l.number v) ≡ held_of (table_at rec room i) + 1
-      = held-set (table_at rec room i) l.number v (omega (arith, length-table rec room i)) free (held-of-length v some_bytes) in
-      let b : held_of (table_at rec room i) ≤ 128 = omega (arith, held-le (table_at rec room i), length-table rec room i) in
+      = held_set (table_at rec room i) l.number v (omega (arith, length_table rec room i)) free (held_of_length v some_bytes) in
+      let b : held_of (table_at rec room i) ≤ 128 = omega (arith, held_le (table_at rec room i), length_table rec room i) in
       let c : h.count ≡ held_of (table_at rec room i) = f.counted in
       rw (lt-ltb h.count 255 (omega arith)) (ap (λ (z : ℕ). z + 1) c ∙ sym a ∙ ap held_of (sym table_kept))
 
   sums : h.total + length v ≡ total (table_at rec' room' i)
   sums =
       let t : total (set (table_at rec room i) l.number v) + length (get_or (table_at rec room i) l.number []) ≡ total (table_at rec room i) + length v
-      = total-set (table_at rec room i) l.number v (omega (arith, length-table rec room i)) in
-      let o : length (get_or (table_at rec room i) l.number []) ≡ 0 = ap length (not-held (get_or (table_at rec room i) l.number []) free) in
+      = total_set (table_at rec room i) l.number v (omega (arith, length_table rec room i)) in
+      let o : length (get_or (table_at rec room i) l.number []) ≡ 0 = ap length (not_held (get_or (table_at rec room i) l.number []) free) in
       let s : total (table_at rec' room' i) ≡ total (set (table_at rec room i) l.number v) = ap total table_kept in
       omega (arith, f.filled)
 
-  top-is : (b : Bool) → ltb h.top l.number ≡ b → (0 < pick b l.number h.top → is_held (get_or (table_at rec' room' i) (pick b l.number h.top) []) ≡ true)
+  top_is : (b : Bool) → ltb h.top l.number ≡ b → (0 < pick b l.number h.top → is_held (get_or (table_at rec' room' i) (pick b l.number h.top) []) ≡ true)
       × ((k : ℕ) → is_held (get_or (table_at rec' room' i) k []) ≡ true → k ≤ pick b l.number h.top)
-  top-is true q = (λ z. held-now, λ k e'. most k e' (ℕ_discrete k l.number))
+  top_is true q = (λ z. held_now, λ k e'. most k e' (ℕ_discrete k l.number))
     where
       most : (k : ℕ) → is_held (get_or (table_at rec' room' i) k []) ≡ true → Dec (k ≡ l.number) → k ≤ l.number
       most k e' (yes y) = omega arith
-      most k e' (no y) = let a : k ≤ h.top = f.topmost k (was-held k y e') in let b : h.top < l.number = ltb-true h.top l.number q in omega arith
-  top-is false q = (λ z. at_top z (ℕ_discrete h.top l.number), λ k e'. most k e' (ℕ_discrete k l.number))
+      most k e' (no y) = let a : k ≤ h.top = f.topmost k (was_held k y e') in let b : h.top < l.number = ltb-true h.top l.number q in omega arith
+  top_is false q = (λ z. at_top z (ℕ_discrete h.top l.number), λ k e'. most k e' (ℕ_discrete k l.number))
     where
       at_top : 0 < h.top → Dec (h.top ≡ l.number) → is_held (get_or (table_at rec' room' i) h.top []) ≡ true
-      at_top z (yes y) = ap (λ (k : ℕ). is_held (get_or (table_at rec' room' i) k [])) y ∙ held-now
-      at_top z (no y) = held-still h.top y (f.top-held z)
+      at_top z (yes y) = ap (λ (k : ℕ). is_held (get_or (table_at rec' room' i) k [])) y ∙ held_now
+      at_top z (no y) = held_still h.top y (f.top_held z)
 
       most : (k : ℕ) → is_held (get_or (table_at rec' room' i) k []) ≡ true → Dec (k ≡ l.number) → k ≤ h.top
       most k e' (yes y) = let b : l.number ≤ h.top = ltb-false h.top l.number q in omega arith
-      most k e' (no y) = f.topmost k (was-held k y e')
+      most k e' (no y) = f.topmost k (was_held k y e')
 
-  last-is : (b : Bool) → l.last ≡ b → (pick b l.number h.last < 128)
+  last_is : (b : Bool) → l.last ≡ b → (pick b l.number h.last < 128)
       × (0 < pick b l.number h.last → (k : ℕ) → is_held (get_or (table_at rec' room' i) k []) ≡ true → k ≤ pick b l.number h.last)
-  last-is true q = (hn, λ z k e'. most k e' (ℕ_discrete k l.number))
+  last_is true q = (hn, λ z k e'. most k e' (ℕ_discrete k l.number))
     where
       most : (k : ℕ) → is_held (get_or (table_at rec' room' i) k []) ≡ true → Dec (k ≡ l.number) → k ≤ l.number
       most k e' (yes y) = omega arith
-      most k e' (no y) = let a : k ≤ h.top = f.topmost k (was-held k y e') in let b : h.top ≤ l.number = fit-top q in omega arith
-  last-is false q = (f.last-small, λ z k e'. most z k e' (ℕ_discrete k l.number))
+      most k e' (no y) = let a : k ≤ h.top = f.topmost k (was_held k y e') in let b : h.top ≤ l.number = fit_top q in omega arith
+  last_is false q = (f.last_small, λ z k e'. most z k e' (ℕ_discrete k l.number))
     where
       most : 0 < h.last → (k : ℕ) → is_held (get_or (table_at rec' room' i) k []) ≡ true → Dec (k ≡ l.number) → k ≤ h.last
-      most z k e' (yes y) = let b : l.number ≤ h.last = fit-above z in omega arith
-      most z k e' (no y) = f.lastmost z k (was-held k y e')
+      most z k e' (yes y) = let b : l.number ≤ h.last = fit_above z in omega arith
+      most z k e' (no y) = f.lastmost z k (was_held k y e')
 
   inside' : (k : ℕ) → k < 128 → Dec (k ≡ l.number) → (entry_at rec' i k).place + (entry_at rec' i k).len ≤ h.total + length v
   inside' k hk (yes y) =
@@ -241,18 +241,18 @@ module _ (h : Head) (rec room : List ℕ) (i : ℕ) (f : Fine h rec room i) (rlo
       omega arith
 
   pub kept_fine : Fine g rec' room' i
-  unfolding grownBy
+  unfolding grown_by
   kept_fine =
       record {
         id = f.id;
         opened = f.opened;
-        expires = head-fits.expires;
+        expires = head_fits.expires;
         small = omega arith;
         inside = λ k hk. inside' k hk (ℕ_discrete k l.number);
         filled = sums;
         counted = counts;
-        top-held = (top-is (ltb h.top l.number) refl).0;
-        topmost = (top-is (ltb h.top l.number) refl).1;
-        last-small = (last-is l.last refl).0;
-        lastmost = (last-is l.last refl).1;
+        top_held = (top_is (ltb h.top l.number) refl).0;
+        topmost = (top_is (ltb h.top l.number) refl).1;
+        last_small = (last_is l.last refl).0;
+        lastmost = (last_is l.last refl).1;
       }

@@ -8,41 +8,41 @@ use native.Mathlib.Omega.{arith}
 use lib.ListN.{length, drop, length-append, length-drop}
 use lib.Dec.{ltb, eqb}
 use borrow.Author.Tests.{eq-eqb, ne_eqb, eqb-false, le-ltb, ltb-true}
-use Rattle.wire.proofs.Tests.{or-neither}
-use Rattle.reassembly.specs.Memory.{Finished, Memory, remembers, remember, isDue, forget}
+use Rattle.wire.proofs.Tests.{or_neither}
+use Rattle.reassembly.specs.Memory.{Finished, Memory, remembers, remember, is_due, forget}
 use Rattle.reassembly.specs.Apart.{Distinct}
 
 -- one more at the end
-pub remembers-more : (fs : Memory) (f : Finished) (id : ℕ) → remembers (fs ++ (f ∷ [])) id ≡ (remembers fs id || eqb f.id id)
+pub remembers_more : (fs : Memory) (f : Finished) (id : ℕ) → remembers (fs ++ (f ∷ [])) id ≡ (remembers fs id || eqb f.id id)
 unfolding remembers
-remembers-more [] f id = or-false (eqb f.id id)
-remembers-more (g ∷ fs) f id =
-    ap (λ (b : Bool). eqb g.id id || b) (remembers-more fs f id)
+remembers_more [] f id = or-false (eqb f.id id)
+remembers_more (g ∷ fs) f id =
+    ap (λ (b : Bool). eqb g.id id || b) (remembers_more fs f id)
     ∙ sym (or_assoc (eqb g.id id) (remembers fs id) (eqb f.id id))
 
-pub forget-more : (second : ℕ) (fs : Memory) (f : Finished) → forget second (fs ++ (f ∷ [])) ≡ forget second fs ++ cond (isDue second f) [] (f ∷ [])
+pub forget_more : (second : ℕ) (fs : Memory) (f : Finished) → forget second (fs ++ (f ∷ [])) ≡ forget second fs ++ cond (is_due second f) [] (f ∷ [])
 unfolding forget
-forget-more second [] f = refl
-forget-more second (g ∷ fs) f = go (isDue second g) (forget-more second fs f)
+forget_more second [] f = refl
+forget_more second (g ∷ fs) f = go (is_due second g) (forget_more second fs f)
   where
-    go : (b : Bool) → forget second (fs ++ (f ∷ [])) ≡ forget second fs ++ cond (isDue second f) [] (f ∷ [])
-        → cond b (forget second (fs ++ (f ∷ []))) (g ∷ forget second (fs ++ (f ∷ []))) ≡ cond b (forget second fs) (g ∷ forget second fs) ++ cond (isDue second f) [] (f ∷ [])
+    go : (b : Bool) → forget second (fs ++ (f ∷ [])) ≡ forget second fs ++ cond (is_due second f) [] (f ∷ [])
+        → cond b (forget second (fs ++ (f ∷ []))) (g ∷ forget second (fs ++ (f ∷ []))) ≡ cond b (forget second fs) (g ∷ forget second fs) ++ cond (is_due second f) [] (f ∷ [])
     go true ih = ih
     go false ih = ap (λ (z : Memory). g ∷ z) ih
 
 -- Never more are remembered than may be.
-pub remember-most : (keep : ℕ) (fs : Memory) (f : Finished) → 1 ≤ keep → length fs ≤ keep → length (remember keep fs f) ≤ keep
+pub remember_most : (keep : ℕ) (fs : Memory) (f : Finished) → 1 ≤ keep → length fs ≤ keep → length (remember keep fs f) ≤ keep
 unfolding remember
-remember-most keep fs f k h = go (ltb (length fs) keep) refl
+remember_most keep fs f k h = go (ltb (length fs) keep) refl
   where
     go : (b : Bool) → ltb (length fs) keep ≡ b → length (cond b fs (drop 1 fs) ++ (f ∷ [])) ≤ keep
     go true e = let l : length fs < keep = ltb-true (length fs) keep e in omega (arith, length-append fs (f ∷ []))
     go false e = omega (arith, length-append (drop 1 fs) (f ∷ []), length-drop 1 fs)
 
 -- A message that finishes pushes out the first at most: the others stay remembered.
-pub others-stay : (keep : ℕ) (fs : Memory) (f : Finished) (id : ℕ) → remembers (drop 1 fs) id ≡ true → remembers (remember keep fs f) id ≡ true
+pub others_stay : (keep : ℕ) (fs : Memory) (f : Finished) (id : ℕ) → remembers (drop 1 fs) id ≡ true → remembers (remember keep fs f) id ≡ true
 unfolding remember remembers
-others-stay keep fs f id e = remembers-more (cond (ltb (length fs) _) fs (drop 1 fs)) f id ∙ rw (go (ltb (length fs) _) fs e) refl
+others_stay keep fs f id e = remembers_more (cond (ltb (length fs) _) fs (drop 1 fs)) f id ∙ rw (go (ltb (length fs) _) fs e) refl
   where
     go : (b : Bool) (fs : Memory) → remembers (drop 1 fs) id ≡ true → remembers (cond b fs (drop 1 fs)) id ≡ true
     go false fs e = e
@@ -50,36 +50,36 @@ others-stay keep fs f id e = remembers-more (cond (ltb (length fs) _) fs (drop 1
     go true (g ∷ fs) e = rw e (or-true (eqb g.id id))
 
 -- It is remembered itself.
-pub remember-self : (keep : ℕ) (fs : Memory) (f : Finished) → remembers (remember keep fs f) f.id ≡ true
+pub remember_self : (keep : ℕ) (fs : Memory) (f : Finished) → remembers (remember keep fs f) f.id ≡ true
 unfolding remember
-remember-self keep fs f = remembers-more (cond (ltb (length fs) _) fs (drop 1 fs)) f f.id ∙ rw (eq-eqb f.id f.id refl) (or-true (remembers (cond (ltb (length fs) _) fs (drop 1 fs)) f.id))
+remember_self keep fs f = remembers_more (cond (ltb (length fs) _) fs (drop 1 fs)) f f.id ∙ rw (eq-eqb f.id f.id refl) (or-true (remembers (cond (ltb (length fs) _) fs (drop 1 fs)) f.id))
 
 -- what is remembered of no message of an id, by parts
-first-not : (f : Finished) (fs : Memory) (id : ℕ) → remembers (f ∷ fs) id ≡ false → (eqb f.id id ≡ false) × (remembers fs id ≡ false)
+first_not : (f : Finished) (fs : Memory) (id : ℕ) → remembers (f ∷ fs) id ≡ false → (eqb f.id id ≡ false) × (remembers fs id ≡ false)
 unfolding remembers
-first-not f fs id e = or-neither (eqb f.id id) (remembers fs id) e
+first_not f fs id e = or_neither (eqb f.id id) (remembers fs id) e
 
-drop-remembers : (fs : Memory) (id : ℕ) → remembers fs id ≡ false → remembers (drop 1 fs) id ≡ false
-drop-remembers [] id e = e
-drop-remembers (f ∷ fs) id e = (first-not f fs id e).1
+drop_remembers : (fs : Memory) (id : ℕ) → remembers fs id ≡ false → remembers (drop 1 fs) id ≡ false
+drop_remembers [] id e = e
+drop_remembers (f ∷ fs) id e = (first_not f fs id e).1
 
-append-remembers : (fs : Memory) (f : Finished) (id : ℕ) → remembers fs id ≡ false → f.id ≢ id → remembers (fs ++ (f ∷ [])) id ≡ false
-append-remembers fs f id e q = remembers-more fs f id ∙ rw (e, ne_eqb f.id id q) refl
+append_remembers : (fs : Memory) (f : Finished) (id : ℕ) → remembers fs id ≡ false → f.id ≢ id → remembers (fs ++ (f ∷ [])) id ≡ false
+append_remembers fs f id e q = remembers_more fs f id ∙ rw (e, ne_eqb f.id id q) refl
 
 -- Finishing another message does not make an id remembered,
-pub remember-other : (keep : ℕ) (fs : Memory) (f : Finished) (id : ℕ) → remembers fs id ≡ false → f.id ≢ id → remembers (remember keep fs f) id ≡ false
+pub remember_other : (keep : ℕ) (fs : Memory) (f : Finished) (id : ℕ) → remembers fs id ≡ false → f.id ≢ id → remembers (remember keep fs f) id ≡ false
 unfolding remember
-remember-other keep fs f id e q = go (ltb (length fs) keep)
+remember_other keep fs f id e q = go (ltb (length fs) keep)
   where
     go : (b : Bool) → remembers (cond b fs (drop 1 fs) ++ (f ∷ [])) id ≡ false
-    go true = append-remembers fs f id e q
-    go false = append-remembers (drop 1 fs) f id (drop-remembers fs id e) q
+    go true = append_remembers fs f id e q
+    go false = append_remembers (drop 1 fs) f id (drop_remembers fs id e) q
 
 -- nor does a sweep.
-pub forget-remembers : (second : ℕ) (fs : Memory) (id : ℕ) → remembers fs id ≡ false → remembers (forget second fs) id ≡ false
+pub forget_remembers : (second : ℕ) (fs : Memory) (id : ℕ) → remembers fs id ≡ false → remembers (forget second fs) id ≡ false
 unfolding remembers forget
-forget-remembers second [] id e = e
-forget-remembers second (f ∷ fs) id e = go (isDue second f) (first-not f fs id e) (forget-remembers second fs id)
+forget_remembers second [] id e = e
+forget_remembers second (f ∷ fs) id e = go (is_due second f) (first_not f fs id e) (forget_remembers second fs id)
   where
     go : (b : Bool) → (eqb f.id id ≡ false) × (remembers fs id ≡ false) → (remembers fs id ≡ false → remembers (forget second fs) id ≡ false)
         → remembers (cond b (forget second fs) (f ∷ forget second fs)) id ≡ false
@@ -87,45 +87,45 @@ forget-remembers second (f ∷ fs) id e = go (isDue second f) (first-not f fs id
     go false p ih = rw p.0 (ih p.1)
 
 -- A sweep leaves no more than were remembered.
-pub forget-most : (second : ℕ) (fs : Memory) → length (forget second fs) ≤ length fs
+pub forget_most : (second : ℕ) (fs : Memory) → length (forget second fs) ≤ length fs
 unfolding forget
-forget-most second [] = omega arith
-forget-most second (f ∷ fs) = go (isDue second f) (forget-most second fs)
+forget_most second [] = omega arith
+forget_most second (f ∷ fs) = go (is_due second f) (forget_most second fs)
   where
     go : (b : Bool) → length (forget second fs) ≤ length fs → length (cond b (forget second fs) (f ∷ forget second fs)) ≤ suc (length fs)
     go true ih = omega arith
     go false ih = omega arith
 
 -- No id is remembered twice;
-append-distinct : (fs : Memory) (f : Finished) → remembers fs f.id ≡ false → Distinct fs → Distinct (fs ++ (f ∷ []))
+append_distinct : (fs : Memory) (f : Finished) → remembers fs f.id ≡ false → Distinct fs → Distinct (fs ++ (f ∷ []))
 unfolding remembers
-append-distinct [] f e d = (refl, tt)
-append-distinct (g ∷ fs) f e d =
-    let p : (eqb g.id f.id ≡ false) × (remembers fs f.id ≡ false) = first-not g fs f.id e in
-    (append-remembers fs f g.id d.0 (λ q. eqb-false g.id f.id p.0 (sym q)), append-distinct fs f p.1 d.1)
+append_distinct [] f e d = (refl, tt)
+append_distinct (g ∷ fs) f e d =
+    let p : (eqb g.id f.id ≡ false) × (remembers fs f.id ≡ false) = first_not g fs f.id e in
+    (append_remembers fs f g.id d.0 (λ q. eqb-false g.id f.id p.0 (sym q)), append_distinct fs f p.1 d.1)
 
-pub remember-distinct : (keep : ℕ) (fs : Memory) (f : Finished) → remembers fs f.id ≡ false → Distinct fs → Distinct (remember keep fs f)
+pub remember_distinct : (keep : ℕ) (fs : Memory) (f : Finished) → remembers fs f.id ≡ false → Distinct fs → Distinct (remember keep fs f)
 unfolding remember
-remember-distinct keep fs f e d = go (ltb (length fs) keep)
+remember_distinct keep fs f e d = go (ltb (length fs) keep)
   where
     less : (fs : Memory) → Distinct fs → Distinct (drop 1 fs)
     less [] d = tt
     less (g ∷ fs) d = d.1
 
     go : (b : Bool) → Distinct (cond b fs (drop 1 fs) ++ (f ∷ []))
-    go true = append-distinct fs f e d
-    go false = append-distinct (drop 1 fs) f (drop-remembers fs f.id e) (less fs d)
+    go true = append_distinct fs f e d
+    go false = append_distinct (drop 1 fs) f (drop_remembers fs f.id e) (less fs d)
 
-pub forget-distinct : (second : ℕ) (fs : Memory) → Distinct fs → Distinct (forget second fs)
+pub forget_distinct : (second : ℕ) (fs : Memory) → Distinct fs → Distinct (forget second fs)
 unfolding forget
-forget-distinct second [] d = tt
-forget-distinct second (f ∷ fs) d = go (isDue second f) (forget-distinct second fs d.1)
+forget_distinct second [] d = tt
+forget_distinct second (f ∷ fs) d = go (is_due second f) (forget_distinct second fs d.1)
   where
     go : (b : Bool) → Distinct (forget second fs) → Distinct (cond b (forget second fs) (f ∷ forget second fs))
     go true ih = ih
-    go false ih = (forget-remembers second fs f.id d.0, ih)
+    go false ih = (forget_remembers second fs f.id d.0, ih)
 
 -- and the first that is pushed out is forgotten.
-pub pushed-out : (keep : ℕ) (fs : Memory) (g f : Finished) → keep ≤ suc (length fs) → Distinct (g ∷ fs) → f.id ≢ g.id → remembers (remember keep (g ∷ fs) f) g.id ≡ false
+pub pushed_out : (keep : ℕ) (fs : Memory) (g f : Finished) → keep ≤ suc (length fs) → Distinct (g ∷ fs) → f.id ≢ g.id → remembers (remember keep (g ∷ fs) f) g.id ≡ false
 unfolding remember
-pushed-out keep fs g f k d q = rw (le-ltb (suc (length fs)) keep k) (append-remembers fs f g.id d.0 q)
+pushed_out keep fs g f k d q = rw (le-ltb (suc (length fs)) keep k) (append_remembers fs f g.id d.0 q)

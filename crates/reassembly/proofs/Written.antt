@@ -10,16 +10,16 @@ use lib.ListN.{length, replicate, length-replicate, length-append}
 use borrow.Author.Tests.{ltb-true, ltb-false}
 use Rattle.wire.specs.Parts.{part, splice}
 use Rattle.wire.specs.Numbers.{little}
-use Rattle.wire.proofs.Parts.{part_same, part-other, part-within, part-inside, length-splice}
-use Rattle.wire.proofs.Numbers.{length-little, little-two, little-four, little-eight, little-back, littleAt-reads}
-use Rattle.wire.proofs.Slices.{part-alike}
-use Rattle.wire.proofs.Zeros.{littleAt-zeros}
-use Rattle.reassembly.specs.Sizes.{slotSize, shareRoom, headSize, tablesAt, entrySize, tableSize, shareSize}
+use Rattle.wire.proofs.Parts.{part_same, part_other, part_within, part_inside, length_splice}
+use Rattle.wire.proofs.Numbers.{length_little, little_two, little_four, little_eight, little_back, little_at_reads}
+use Rattle.wire.proofs.Slices.{part_alike}
+use Rattle.wire.proofs.Zeros.{little_at_zeros}
+use Rattle.reassembly.specs.Sizes.{slot_size, share_room, head_size, tables_at, entry_size, table_size, share_size}
 use Rattle.reassembly.specs.declared.Head.{Head}
 use Rattle.reassembly.specs.declared.Entry.{Entry}
-use Rattle.reassembly.specs.Record.{entryPlace, headOf, headBytes, entryOf, entryBytes, headAt, with_head, entry_at, withEntry, cleared, roomOf}
-use Rattle.reassembly.specs.Calls.{keptRoom}
-use Rattle.reassembly.proofs.Fields.{HeadFits, four, headRow, entryRow, head-written, entry-written}
+use Rattle.reassembly.specs.Record.{entry_place, head_of, head_bytes, entry_of, entry_bytes, head_at, with_head, entry_at, with_entry, cleared, room_of}
+use Rattle.reassembly.specs.Calls.{kept_room}
+use Rattle.reassembly.proofs.Fields.{HeadFits, four, head_row, entry_row, head_written, entry_written}
 
 -- two numbers that differ are one before the other
 pub apart : (i j : ℕ) → i ≢ j → (i < j) ⊎ (j < i)
@@ -32,168 +32,168 @@ apart i j q = go (ltb i j) refl
         lt : j ≤ i → j < i
         lt le = let ne : i ≡ j → ⊥ = q in omega arith
 
-pub head-wide : (h : Head) → length (headBytes h) ≡ headSize
-unfolding headBytes
-head-wide h = simp (length-append, length-little) refl
+pub head_wide : (h : Head) → length (head_bytes h) ≡ head_size
+unfolding head_bytes
+head_wide h = simp (length-append, length_little) refl
 
-pub entry-wide : (e : Entry) → length (entryBytes e) ≡ 4
-unfolding entryBytes
-entry-wide e = simp (length-append, length-little) refl
+pub entry_wide : (e : Entry) → length (entry_bytes e) ≡ 4
+unfolding entry_bytes
+entry_wide e = simp (length-append, length_little) refl
 
 -- a head and an entry that were put are read back, each number from its bytes as they are written out
 little2 : (x : ℕ) → x < 65536 → little (x % 256 ∷ x / 256 ∷ []) ≡ x
-little2 x h = ap little (sym (little-two x h)) ∙ little-back 2 x h
+little2 x h = ap little (sym (little_two x h)) ∙ little_back 2 x h
 
 little4 : (x : ℕ) → x < 4294967296 → little (four x) ≡ x
-little4 x h = ap little (sym (little-four x h)) ∙ little-back 4 x h
+little4 x h = ap little (sym (little_four x h)) ∙ little_back 4 x h
 
 little8 : (x : ℕ) → x < 18446744073709551616 → little (four (x % 4294967296) ++ four (x / 4294967296)) ≡ x
 little8 x h =
     ap little
-    (ap₂ (λ (a b : List ℕ). a ++ b) (sym (little-four (x % 4294967296) (omega arith))) (sym (little-four (x / 4294967296) (omega arith))) ∙ little-eight x)
-    ∙ little-back 8 x h
+    (ap₂ (λ (a b : List ℕ). a ++ b) (sym (little_four (x % 4294967296) (omega arith))) (sym (little_four (x / 4294967296) (omega arith))) ∙ little_eight x)
+    ∙ little_back 8 x h
 
-pub head-back : (h : Head) → HeadFits h → headOf (headBytes h) ≡ h
-unfolding headOf
-head-back h f =
-    ap headOf (head-written h f)
+pub head_back : (h : Head) → HeadFits h → head_of (head_bytes h) ≡ h
+unfolding head_of
+head_back h f =
+    ap head_of (head_written h f)
     ∙ (λ j. record {
-      id = (littleAt-reads 3 (headRow h) 0 (omega arith) ∙ little4 h.id f.id) j;
-      opened = (littleAt-reads 7 (headRow h) 4 (omega arith) ∙ little8 h.opened f.opened) j;
-      expires = (littleAt-reads 3 (headRow h) 12 (omega arith) ∙ little4 h.expires f.expires) j;
-      total = (littleAt-reads 1 (headRow h) 16 (omega arith) ∙ little2 h.total f.total) j;
+      id = (little_at_reads 3 (head_row h) 0 (omega arith) ∙ little4 h.id f.id) j;
+      opened = (little_at_reads 7 (head_row h) 4 (omega arith) ∙ little8 h.opened f.opened) j;
+      expires = (little_at_reads 3 (head_row h) 12 (omega arith) ∙ little4 h.expires f.expires) j;
+      total = (little_at_reads 1 (head_row h) 16 (omega arith) ∙ little2 h.total f.total) j;
       count = h.count;
       last = h.last;
       top = h.top;
       kind = h.kind;
     })
 
-pub entry-back : (e : Entry) → e.place < 65536 → e.len < 65536 → entryOf (entryBytes e) ≡ e
-unfolding entryOf
-entry-back e p l =
-    ap entryOf (entry-written e p l)
+pub entry_back : (e : Entry) → e.place < 65536 → e.len < 65536 → entry_of (entry_bytes e) ≡ e
+unfolding entry_of
+entry_back e p l =
+    ap entry_of (entry_written e p l)
     ∙ (λ j. record {
-      place = (littleAt-reads 1 (entryRow e) 0 (omega arith) ∙ little2 e.place p) j;
-      len = (littleAt-reads 1 (entryRow e) 2 (omega arith) ∙ little2 e.len l) j;
+      place = (little_at_reads 1 (entry_row e) 0 (omega arith) ∙ little2 e.place p) j;
+      len = (little_at_reads 1 (entry_row e) 2 (omega arith) ∙ little2 e.len l) j;
     })
 
 -- zeros
-abbrev pub noEntry : Entry
-noEntry = record { place = 0; len = 0 }
+abbrev pub no_entry : Entry
+no_entry = record { place = 0; len = 0 }
 
-entry-zeros : entryOf (replicate 4 0) ≡ noEntry
-unfolding entryOf
-entry-zeros = λ j. record { place = littleAt-zeros 4 2 0 (omega arith) j; len = littleAt-zeros 4 2 2 (omega arith) j }
+entry_zeros : entry_of (replicate 4 0) ≡ no_entry
+unfolding entry_of
+entry_zeros = λ j. record { place = little_at_zeros 4 2 0 (omega arith) j; len = little_at_zeros 4 2 2 (omega arith) j }
 
-module _ (rec : List ℕ) (long : shareSize ≤ length rec) (i : ℕ) (hi : i < 4) where
+module _ (rec : List ℕ) (long : share_size ≤ length rec) (i : ℕ) (hi : i < 4) where
   module _ (h : Head) where
-    fits_head : i * headSize + length (headBytes h) ≤ length rec
-    fits_head = omega (arith, head-wide h)
+    fits_head : i * head_size + length (head_bytes h) ≤ length rec
+    fits_head = omega (arith, head_wide h)
 
-    pub length-head : length (with_head rec i h) ≡ length rec
+    pub length_head : length (with_head rec i h) ≡ length rec
     unfolding with_head
-    length-head = length-splice rec (i * headSize) (headBytes h) fits_head
+    length_head = length_splice rec (i * head_size) (head_bytes h) fits_head
 
-    pub head-same : HeadFits h → headAt (with_head rec i h) i ≡ h
-    unfolding with_head headAt
-    head-same f =
-        ap (λ (n : ℕ). headOf (part (splice rec (i * headSize) (headBytes h)) (i * headSize) n)) (sym (head-wide h))
-        ∙ ap headOf (part_same rec (i * headSize) (headBytes h) fits_head)
-        ∙ head-back h f
+    pub head_same : HeadFits h → head_at (with_head rec i h) i ≡ h
+    unfolding with_head head_at
+    head_same f =
+        ap (λ (n : ℕ). head_of (part (splice rec (i * head_size) (head_bytes h)) (i * head_size) n)) (sym (head_wide h))
+        ∙ ap head_of (part_same rec (i * head_size) (head_bytes h) fits_head)
+        ∙ head_back h f
 
-    pub head-other : (j : ℕ) → j ≢ i → headAt (with_head rec i h) j ≡ headAt rec j
-    unfolding with_head headAt
-    head-other j q = ap headOf (part-other rec (i * headSize) (headBytes h) fits_head (j * headSize) headSize (side (apart j i q)))
+    pub head_other : (j : ℕ) → j ≢ i → head_at (with_head rec i h) j ≡ head_at rec j
+    unfolding with_head head_at
+    head_other j q = ap head_of (part_other rec (i * head_size) (head_bytes h) fits_head (j * head_size) head_size (side (apart j i q)))
       where
-        side : (j < i) ⊎ (i < j) → (j * headSize + headSize ≤ i * headSize) ⊎ (i * headSize + length (headBytes h) ≤ j * headSize)
+        side : (j < i) ⊎ (i < j) → (j * head_size + head_size ≤ i * head_size) ⊎ (i * head_size + length (head_bytes h) ≤ j * head_size)
         side (inl a) = inl (omega arith)
-        side (inr a) = inr (omega (arith, head-wide h))
+        side (inr a) = inr (omega (arith, head_wide h))
 
-    pub head-entry : (j k : ℕ) → entry_at (with_head rec i h) j k ≡ entry_at rec j k
+    pub head_entry : (j k : ℕ) → entry_at (with_head rec i h) j k ≡ entry_at rec j k
     unfolding with_head entry_at
-    head-entry j k = ap entryOf (part-other rec (i * headSize) (headBytes h) fits_head (entryPlace j k) entrySize (inr (omega (arith, head-wide h))))
+    head_entry j k = ap entry_of (part_other rec (i * head_size) (head_bytes h) fits_head (entry_place j k) entry_size (inr (omega (arith, head_wide h))))
 
   module _ (m : ℕ) (hm : m < 128) (e : Entry) where
-    fits-entry : entryPlace i m + length (entryBytes e) ≤ length rec
-    fits-entry = omega (arith, entry-wide e)
+    fits_entry : entry_place i m + length (entry_bytes e) ≤ length rec
+    fits_entry = omega (arith, entry_wide e)
 
-    pub length-entry : length (withEntry rec i m e) ≡ length rec
-    unfolding withEntry
-    length-entry = length-splice rec (entryPlace i m) (entryBytes e) fits-entry
+    pub length_entry : length (with_entry rec i m e) ≡ length rec
+    unfolding with_entry
+    length_entry = length_splice rec (entry_place i m) (entry_bytes e) fits_entry
 
-    pub entry-same : e.place < 65536 → e.len < 65536 → entry_at (withEntry rec i m e) i m ≡ e
-    unfolding withEntry entry_at
-    entry-same p l =
-        ap (λ (n : ℕ). entryOf (part (splice rec (entryPlace i m) (entryBytes e)) (entryPlace i m) n)) (sym (entry-wide e))
-        ∙ ap entryOf (part_same rec (entryPlace i m) (entryBytes e) fits-entry)
-        ∙ entry-back e p l
+    pub entry_same : e.place < 65536 → e.len < 65536 → entry_at (with_entry rec i m e) i m ≡ e
+    unfolding with_entry entry_at
+    entry_same p l =
+        ap (λ (n : ℕ). entry_of (part (splice rec (entry_place i m) (entry_bytes e)) (entry_place i m) n)) (sym (entry_wide e))
+        ∙ ap entry_of (part_same rec (entry_place i m) (entry_bytes e) fits_entry)
+        ∙ entry_back e p l
 
-    pub entry-beside : (k : ℕ) → k ≢ m → entry_at (withEntry rec i m e) i k ≡ entry_at rec i k
-    unfolding withEntry entry_at
-    entry-beside k q = ap entryOf (part-other rec (entryPlace i m) (entryBytes e) fits-entry (entryPlace i k) entrySize (side (apart k m q)))
+    pub entry_beside : (k : ℕ) → k ≢ m → entry_at (with_entry rec i m e) i k ≡ entry_at rec i k
+    unfolding with_entry entry_at
+    entry_beside k q = ap entry_of (part_other rec (entry_place i m) (entry_bytes e) fits_entry (entry_place i k) entry_size (side (apart k m q)))
       where
-        side : (k < m) ⊎ (m < k) → (entryPlace i k + entrySize ≤ entryPlace i m) ⊎ (entryPlace i m + length (entryBytes e) ≤ entryPlace i k)
+        side : (k < m) ⊎ (m < k) → (entry_place i k + entry_size ≤ entry_place i m) ⊎ (entry_place i m + length (entry_bytes e) ≤ entry_place i k)
         side (inl a) = inl (omega arith)
-        side (inr a) = inr (omega (arith, entry-wide e))
+        side (inr a) = inr (omega (arith, entry_wide e))
 
-    pub entry_other : (j k : ℕ) → j ≢ i → k < 128 → entry_at (withEntry rec i m e) j k ≡ entry_at rec j k
-    unfolding withEntry entry_at
-    entry_other j k q hk = ap entryOf (part-other rec (entryPlace i m) (entryBytes e) fits-entry (entryPlace j k) entrySize (side (apart j i q)))
+    pub entry_other : (j k : ℕ) → j ≢ i → k < 128 → entry_at (with_entry rec i m e) j k ≡ entry_at rec j k
+    unfolding with_entry entry_at
+    entry_other j k q hk = ap entry_of (part_other rec (entry_place i m) (entry_bytes e) fits_entry (entry_place j k) entry_size (side (apart j i q)))
       where
-        side : (j < i) ⊎ (i < j) → (entryPlace j k + entrySize ≤ entryPlace i m) ⊎ (entryPlace i m + length (entryBytes e) ≤ entryPlace j k)
+        side : (j < i) ⊎ (i < j) → (entry_place j k + entry_size ≤ entry_place i m) ⊎ (entry_place i m + length (entry_bytes e) ≤ entry_place j k)
         side (inl a) = inl (omega arith)
-        side (inr a) = inr (omega (arith, entry-wide e))
+        side (inr a) = inr (omega (arith, entry_wide e))
 
-    pub entry-head : (j : ℕ) → j < 4 → headAt (withEntry rec i m e) j ≡ headAt rec j
-    unfolding withEntry headAt
-    entry-head j hj = ap headOf (part-other rec (entryPlace i m) (entryBytes e) fits-entry (j * headSize) headSize (inl (omega arith)))
+    pub entry_head : (j : ℕ) → j < 4 → head_at (with_entry rec i m e) j ≡ head_at rec j
+    unfolding with_entry head_at
+    entry_head j hj = ap head_of (part_other rec (entry_place i m) (entry_bytes e) fits_entry (j * head_size) head_size (inl (omega arith)))
 
   zeros : List ℕ
-  zeros = replicate tableSize 0
+  zeros = replicate table_size 0
 
-  wide-zeros : length zeros ≡ tableSize
+  wide_zeros : length zeros ≡ table_size
   unfolding zeros
-  wide-zeros = length-replicate {A = ℕ} tableSize 0
+  wide_zeros = length-replicate {A = ℕ} table_size 0
 
-  fits-zeros : tablesAt + i * tableSize + length zeros ≤ length rec
-  fits-zeros = omega (arith, wide-zeros)
+  fits_zeros : tables_at + i * table_size + length zeros ≤ length rec
+  fits_zeros = omega (arith, wide_zeros)
 
-  pub length-cleared : length (cleared rec i) ≡ length rec
+  pub length_cleared : length (cleared rec i) ≡ length rec
   unfolding cleared zeros
-  length-cleared = length-splice rec (tablesAt + i * tableSize) zeros fits-zeros
+  length_cleared = length_splice rec (tables_at + i * table_size) zeros fits_zeros
 
-  pub cleared-head : (j : ℕ) → j < 4 → headAt (cleared rec i) j ≡ headAt rec j
-  unfolding cleared headAt zeros
-  cleared-head j hj = ap headOf (part-other rec (tablesAt + i * tableSize) zeros fits-zeros (j * headSize) headSize (inl (omega arith)))
+  pub cleared_head : (j : ℕ) → j < 4 → head_at (cleared rec i) j ≡ head_at rec j
+  unfolding cleared head_at zeros
+  cleared_head j hj = ap head_of (part_other rec (tables_at + i * table_size) zeros fits_zeros (j * head_size) head_size (inl (omega arith)))
 
-  pub cleared-other : (j k : ℕ) → j ≢ i → k < 128 → entry_at (cleared rec i) j k ≡ entry_at rec j k
+  pub cleared_other : (j k : ℕ) → j ≢ i → k < 128 → entry_at (cleared rec i) j k ≡ entry_at rec j k
   unfolding cleared entry_at zeros
-  cleared-other j k q hk = ap entryOf (part-other rec (tablesAt + i * tableSize) zeros fits-zeros (entryPlace j k) entrySize (side (apart j i q)))
+  cleared_other j k q hk = ap entry_of (part_other rec (tables_at + i * table_size) zeros fits_zeros (entry_place j k) entry_size (side (apart j i q)))
     where
-      side : (j < i) ⊎ (i < j) → (entryPlace j k + entrySize ≤ tablesAt + i * tableSize) ⊎ (tablesAt + i * tableSize + length zeros ≤ entryPlace j k)
+      side : (j < i) ⊎ (i < j) → (entry_place j k + entry_size ≤ tables_at + i * table_size) ⊎ (tables_at + i * table_size + length zeros ≤ entry_place j k)
       side (inl a) = inl (omega arith)
-      side (inr a) = inr (omega (arith, wide-zeros))
+      side (inr a) = inr (omega (arith, wide_zeros))
 
-  pub cleared-entry : (k : ℕ) → k < 128 → entry_at (cleared rec i) i k ≡ noEntry
+  pub cleared_entry : (k : ℕ) → k < 128 → entry_at (cleared rec i) i k ≡ no_entry
   unfolding cleared entry_at zeros
-  cleared-entry k hk =
-      ap entryOf (part-within rec (tablesAt + i * tableSize) zeros fits-zeros (k * entrySize) entrySize (omega (arith, wide-zeros)) ∙ part-alike 0 tableSize (k * entrySize) entrySize (omega arith))
-      ∙ entry-zeros
+  cleared_entry k hk =
+      ap entry_of (part_within rec (tables_at + i * table_size) zeros fits_zeros (k * entry_size) entry_size (omega (arith, wide_zeros)) ∙ part_alike 0 table_size (k * entry_size) entry_size (omega arith))
+      ∙ entry_zeros
 
 -- the room of slot i with a piece put after t bytes, and the other slots' rooms
-module _ (room : List ℕ) (long : shareRoom ≤ length room) (i : ℕ) (hi : i < 4) (t : ℕ) (v : List ℕ) (fits : t + length v ≤ slotSize) where
-  pub length-kept : length (keptRoom room i t v) ≡ length room
-  unfolding keptRoom
-  length-kept = length-splice room (i * slotSize + t) v (omega arith)
+module _ (room : List ℕ) (long : share_room ≤ length room) (i : ℕ) (hi : i < 4) (t : ℕ) (v : List ℕ) (fits : t + length v ≤ slot_size) where
+  pub length_kept : length (kept_room room i t v) ≡ length room
+  unfolding kept_room
+  length_kept = length_splice room (i * slot_size + t) v (omega arith)
 
-  pub kept-room : roomOf (keptRoom room i t v) i ≡ splice (roomOf room i) t v
-  unfolding keptRoom roomOf
-  kept-room = part-inside room (i * slotSize) slotSize t v (omega arith) fits
+  pub kept_room_lem : room_of (kept_room room i t v) i ≡ splice (room_of room i) t v
+  unfolding kept_room room_of
+  kept_room_lem = part_inside room (i * slot_size) slot_size t v (omega arith) fits
 
-  pub kept-other : (j : ℕ) → j ≢ i → roomOf (keptRoom room i t v) j ≡ roomOf room j
-  unfolding keptRoom roomOf
-  kept-other j q = part-other room (i * slotSize + t) v (omega arith) (j * slotSize) slotSize (side (apart j i q))
+  pub kept_other : (j : ℕ) → j ≢ i → room_of (kept_room room i t v) j ≡ room_of room j
+  unfolding kept_room room_of
+  kept_other j q = part_other room (i * slot_size + t) v (omega arith) (j * slot_size) slot_size (side (apart j i q))
     where
-      side : (j < i) ⊎ (i < j) → (j * slotSize + slotSize ≤ i * slotSize + t) ⊎ (i * slotSize + t + length v ≤ j * slotSize)
+      side : (j < i) ⊎ (i < j) → (j * slot_size + slot_size ≤ i * slot_size + t) ⊎ (i * slot_size + t + length v ≤ j * slot_size)
       side (inl a) = inl (omega arith)
       side (inr a) = inr (omega arith)

@@ -1,6 +1,6 @@
 -- Late repeats (request P5): the finished messages that a store remembers, the first finished first.
 use Rattle.std.specs.Prelude.{Bool, false, cond, ◌||◌, List, [], ◌∷◌, ◌++◌, ℕ, ltb, eqb, length, drop}
-use Rattle.reassembly.specs.Ages.{longAgo}
+use Rattle.reassembly.specs.Ages.{long_ago}
 
 -- A finished message: its id, and the second of the piece that finished it.
 pub record Finished : Type 0 where
@@ -21,10 +21,10 @@ unfoldable pub remember : ℕ → Memory → Finished → Memory
 remember keep fs f = cond (ltb (length fs) keep) fs (drop 1 fs) ++ (f ∷ [])
 
 -- A finished message is due at a second that is at least 30 above its finishing second.
-unfoldable pub isDue : ℕ → Finished → Bool
-isDue second f = longAgo f.second second
+unfoldable pub is_due : ℕ → Finished → Bool
+is_due second f = long_ago f.second second
 
 -- A sweep forgets those that are due.
 unfoldable pub forget : ℕ → Memory → Memory
 forget second [] = []
-forget second (f ∷ fs) = cond (isDue second f) (forget second fs) (f ∷ forget second fs)
+forget second (f ∷ fs) = cond (is_due second f) (forget second fs) (f ∷ forget second fs)

@@ -14,14 +14,14 @@ turned said rec room = record { said = said; rec = rec; room = room }
 
 module _ {C A : Type 0} where
   -- what is said to turns, one after the other
-  abbrev pub saidEach : (List ℕ → List ℕ → C → Turned A) → List ℕ → List ℕ → List C → List A
-  saidEach turn rec room [] = []
-  saidEach turn rec room (c ∷ cs) = (turn rec room c).said ∷ saidEach turn (turn rec room c).rec (turn rec room c).room cs
+  abbrev pub said_each : (List ℕ → List ℕ → C → Turned A) → List ℕ → List ℕ → List C → List A
+  said_each turn rec room [] = []
+  said_each turn rec room (c ∷ cs) = (turn rec room c).said ∷ said_each turn (turn rec room c).rec (turn rec room c).room cs
 
   -- the record after the last of them
-  abbrev pub recordLeft : (List ℕ → List ℕ → C → Turned A) → List ℕ → List ℕ → List C → List ℕ
-  recordLeft turn rec room [] = rec
-  recordLeft turn rec room (c ∷ cs) = recordLeft turn (turn rec room c).rec (turn rec room c).room cs
+  abbrev pub record_left : (List ℕ → List ℕ → C → Turned A) → List ℕ → List ℕ → List C → List ℕ
+  record_left turn rec room [] = rec
+  record_left turn rec room (c ∷ cs) = record_left turn (turn rec room c).rec (turn rec room c).room cs
 
   -- the room after the last of them
   abbrev pub room_left : (List ℕ → List ℕ → C → Turned A) → List ℕ → List ℕ → List C → List ℕ
@@ -29,10 +29,10 @@ module _ {C A : Type 0} where
   room_left turn rec room (c ∷ cs) = room_left turn (turn rec room c).rec (turn rec room c).room cs
 
   -- what was said to those that pass a test, of what was said to all
-  abbrev pub saidThose : (C → Bool) → List C → List A → List A
-  saidThose mine [] rs = []
-  saidThose mine (c ∷ cs) [] = []
-  saidThose mine (c ∷ cs) (r ∷ rs) = cond (mine c) (r ∷ saidThose mine cs rs) (saidThose mine cs rs)
+  abbrev pub said_those : (C → Bool) → List C → List A → List A
+  said_those mine [] rs = []
+  said_those mine (c ∷ cs) [] = []
+  said_those mine (c ∷ cs) (r ∷ rs) = cond (mine c) (r ∷ said_those mine cs rs) (said_those mine cs rs)
 
 -- the turns that pass a test: a neighbour's own, and the sweeps
 abbrev pub those : {C : Type 0} → (C → Bool) → List C → List C

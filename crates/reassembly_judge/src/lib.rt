@@ -1,8 +1,8 @@
 // What a piece is to a slot: pure steps on the slot's head and the piece's label.
 ghost use Rattle.std.specs.Prelude.{◌≡◌, ◌+◌, ◌<◌, ◌≤◌};
-ghost use Rattle.reassembly.specs.Sizes.{messageSize};
-ghost use Rattle.reassembly.specs.Ages.{longAgo};
-ghost use Rattle.reassembly.specs.Judge.{pick, sameLabel, again, misfits, moreOf, grownBy, is_complete, newHead, noHead, isOld};
+ghost use Rattle.reassembly.specs.Sizes.{message_size};
+ghost use Rattle.reassembly.specs.Ages.{long_ago};
+ghost use Rattle.reassembly.specs.Judge.{pick, same_label, again, misfits, more_of, grown_by, is_complete, new_head, no_head, is_old};
 
 use reassembly::{Head, Label};
 use wire::usize_from_u8;
@@ -27,7 +27,7 @@ fn pick32(c: bool, a: u32, b: u32) -> u32
 
 // The held piece of the label's number came with the same head, or the same flag.
 fn same_label(h: Head, l: Label) -> bool
-    ensures { result ≡ sameLabel h l }
+    ensures { result ≡ same_label h l }
 {
     if l.number == 0 {
         return (h.kind == l.kind) & (h.expires == l.expires);
@@ -53,7 +53,7 @@ pub fn misfits(h: Head, l: Label) -> bool
 }
 
 fn more_of(n: u8) -> u8
-    ensures { result ≡ moreOf n }
+    ensures { result ≡ more_of n }
 {
     if n < 255 {
         return n + 1;
@@ -63,8 +63,8 @@ fn more_of(n: u8) -> u8
 
 // The head with a piece of n bytes more.
 pub fn grown(h: Head, l: Label, n: u16) -> Head
-    requires { h.total + n ≤ messageSize }
-    ensures { result ≡ grownBy h l n }
+    requires { h.total + n ≤ message_size }
+    ensures { result ≡ grown_by h l n }
 {
     let head = l.number == 0;
     Head {
@@ -88,7 +88,7 @@ pub fn is_complete(h: Head) -> bool
 
 // The head of a message that is opened now, with nothing held.
 pub fn new_head(l: Label, second: u64) -> Head
-    ensures { result ≡ newHead l second }
+    ensures { result ≡ new_head l second }
 {
     Head {
         id: l.id,
@@ -104,7 +104,7 @@ pub fn new_head(l: Label, second: u64) -> Head
 
 // The head of a free slot.
 pub fn no_head() -> Head
-    ensures { result ≡ noHead }
+    ensures { result ≡ no_head }
 {
     Head {
         id: 0,
@@ -120,7 +120,7 @@ pub fn no_head() -> Head
 
 // The present second is at least 30 above another; by a difference, for a sum might wrap.
 pub fn long_ago(at: u64, second: u64) -> bool
-    ensures { result ≡ longAgo at second }
+    ensures { result ≡ long_ago at second }
 {
     if second < 30 {
         return false;
@@ -130,7 +130,7 @@ pub fn long_ago(at: u64, second: u64) -> bool
 
 // A slot whose message was opened 30 seconds ago or earlier.
 pub fn is_old(h: Head, second: u64) -> bool
-    ensures { result ≡ isOld second h }
+    ensures { result ≡ is_old second h }
 {
     (h.count != 0) & long_ago(h.opened, second)
 }

@@ -9,77 +9,77 @@ use lib.Dec.{eqb}
 use lib.ListN.{length, get_or}
 use borrow.Author.Tests.{lt-ltb, le-ltb}
 use Rattle.wire.specs.Parts.{part, splice}
-use Rattle.wire.proofs.Parts.{length_part, part-after}
-use Rattle.reassembly.specs.Sizes.{mostRemembered, idsAt, idSize, secondsAt, secondSize, countAt, shareSize}
+use Rattle.wire.proofs.Parts.{length_part, part_after}
+use Rattle.reassembly.specs.Sizes.{most_remembered, ids_at, id_size, seconds_at, second_size, count_at, share_size}
 use Rattle.wire.specs.Series.{series}
-use Rattle.reassembly.specs.Ages.{longAgo}
-use Rattle.reassembly.specs.Memory.{remembers, isDue}
-use Rattle.reassembly.specs.Remembered.{rememberedCount, finishedAt, memoryOf, withCount, withFinished, moved_to, rememberedIn, Sifted, sifted, siftedOne, siftedTo, forgottenIn}
-use Rattle.wire.proofs.Series.{series-more}
-use Rattle.reassembly.proofs.Memories.{remembers-more}
-use Rattle.reassembly.proofs.Remembered.{count-is}
+use Rattle.reassembly.specs.Ages.{long_ago}
+use Rattle.reassembly.specs.Memory.{remembers, is_due}
+use Rattle.reassembly.specs.Remembered.{remembered_count, finished_at, memory_of, with_count, with_finished, moved_to, remembered_in, Sifted, sifted, sifted_one, sifted_to, forgotten_in}
+use Rattle.wire.proofs.Series.{series_more}
+use Rattle.reassembly.proofs.Memories.{remembers_more}
+use Rattle.reassembly.proofs.Remembered.{count_is}
 
 module _ (rec : List ℕ) where
-  pub count-below : (n : ℕ) → n ≡ get_or rec countAt 0 → n < mostRemembered → n ≡ rememberedCount rec
-  count-below n e h = sym (count-is rec n (sym e) (omega arith))
+  pub count_below : (n : ℕ) → n ≡ get_or rec count_at 0 → n < most_remembered → n ≡ remembered_count rec
+  count_below n e h = sym (count_is rec n (sym e) (omega arith))
 
-  pub count-above : (n : ℕ) → n ≡ get_or rec countAt 0 → mostRemembered ≤ n → mostRemembered ≡ rememberedCount rec
-  unfolding rememberedCount
-  count-above n e h = rw (le-ltb (get_or rec countAt 0) mostRemembered (omega arith)) refl
+  pub count_above : (n : ℕ) → n ≡ get_or rec count_at 0 → most_remembered ≤ n → most_remembered ≡ remembered_count rec
+  unfolding remembered_count
+  count_above n e h = rw (le-ltb (get_or rec count_at 0) most_remembered (omega arith)) refl
 
   -- the ids' move leaves the seconds as they were
-  pub moved : (ids both : List ℕ) (j k n : ℕ) → shareSize ≤ length rec → j ≤ k → k + n ≤ mostRemembered
-      → ids ≡ splice rec (idsAt + j * idSize) (part rec (idsAt + k * idSize) (n * idSize))
-      → both ≡ splice ids (secondsAt + j * secondSize) (part ids (secondsAt + k * secondSize) (n * secondSize))
+  pub moved : (ids both : List ℕ) (j k n : ℕ) → share_size ≤ length rec → j ≤ k → k + n ≤ most_remembered
+      → ids ≡ splice rec (ids_at + j * id_size) (part rec (ids_at + k * id_size) (n * id_size))
+      → both ≡ splice ids (seconds_at + j * second_size) (part ids (seconds_at + k * second_size) (n * second_size))
       → both ≡ moved_to rec j k n
   unfolding moved_to
   moved ids both j k n long down few e f =
-      let v : List ℕ = part rec (idsAt + k * idSize) (n * idSize) in
-      let lv : length (part rec (idsAt + k * idSize) (n * idSize)) ≡ n * idSize = length_part rec (idsAt + k * idSize) (n * idSize) (omega arith) in
-      let s : part ids (secondsAt + k * secondSize) (n * secondSize) ≡ part rec (secondsAt + k * secondSize) (n * secondSize) =
-      ap (λ (z : List ℕ). part z (secondsAt + k * secondSize) (n * secondSize)) e
-      ∙ part-after rec (idsAt + j * idSize) v (omega arith) (secondsAt + k * secondSize) (n * secondSize) (omega arith)
+      let v : List ℕ = part rec (ids_at + k * id_size) (n * id_size) in
+      let lv : length (part rec (ids_at + k * id_size) (n * id_size)) ≡ n * id_size = length_part rec (ids_at + k * id_size) (n * id_size) (omega arith) in
+      let s : part ids (seconds_at + k * second_size) (n * second_size) ≡ part rec (seconds_at + k * second_size) (n * second_size) =
+      ap (λ (z : List ℕ). part z (seconds_at + k * second_size) (n * second_size)) e
+      ∙ part_after rec (ids_at + j * id_size) v (omega arith) (seconds_at + k * second_size) (n * second_size) (omega arith)
       in
-      f ∙ ap (splice ids (secondsAt + j * secondSize)) s ∙ ap (λ (z : List ℕ). splice z (secondsAt + j * secondSize) (part rec (secondsAt + k * secondSize) (n * secondSize))) e
+      f ∙ ap (splice ids (seconds_at + j * second_size)) s ∙ ap (λ (z : List ℕ). splice z (seconds_at + j * second_size) (part rec (seconds_at + k * second_size) (n * second_size))) e
 
   -- one id more is looked at, and all are
-  pub found_turn : (id k x : ℕ) (found : Bool) → found ≡ remembers (series (finishedAt rec) 0 k) id → x ≡ (finishedAt rec k).id → (found || eqb x id) ≡ remembers (series (finishedAt rec) 0 (k + 1)) id
+  pub found_turn : (id k x : ℕ) (found : Bool) → found ≡ remembers (series (finished_at rec) 0 k) id → x ≡ (finished_at rec k).id → (found || eqb x id) ≡ remembers (series (finished_at rec) 0 (k + 1)) id
   found_turn id k x found e f =
-      rw (e, f) (sym (ap (λ (z : List _). remembers z id) (series-more (finishedAt rec) k) ∙ remembers-more (series (finishedAt rec) 0 k) (finishedAt rec k) id))
+      rw (e, f) (sym (ap (λ (z : List _). remembers z id) (series_more (finished_at rec) k) ∙ remembers_more (series (finished_at rec) 0 k) (finished_at rec k) id))
 
-  pub found-end : (id k : ℕ) (found : Bool) → found ≡ remembers (series (finishedAt rec) 0 k) id → k ≡ rememberedCount rec → found ≡ remembers (memoryOf rec) id
-  unfolding memoryOf
-  found-end id k found e h = e ∙ ap (λ (n : ℕ). remembers (series (finishedAt rec) 0 n) id) h
+  pub found_end : (id k : ℕ) (found : Bool) → found ≡ remembers (series (finished_at rec) 0 k) id → k ≡ remembered_count rec → found ≡ remembers (memory_of rec) id
+  unfolding memory_of
+  found_end id k found e h = e ∙ ap (λ (n : ℕ). remembers (series (finished_at rec) 0 n) id) h
 
-  pub with-room : (n id second : ℕ) (put saved : List ℕ) → n ≡ rememberedCount rec → n < mostRemembered
-      → put ≡ withFinished rec n (record { id = id; second = second }) → saved ≡ withCount put (n + 1) → saved ≡ rememberedIn rec (record { id = id; second = second })
-  unfolding rememberedIn
-  with-room n id second put saved e h p s = rw (lt-ltb (rememberedCount rec) mostRemembered (omega arith)) (cc)
+  pub with_room : (n id second : ℕ) (put saved : List ℕ) → n ≡ remembered_count rec → n < most_remembered
+      → put ≡ with_finished rec n (record { id = id; second = second }) → saved ≡ with_count put (n + 1) → saved ≡ remembered_in rec (record { id = id; second = second })
+  unfolding remembered_in
+  with_room n id second put saved e h p s = rw (lt-ltb (remembered_count rec) most_remembered (omega arith)) (cc)
 
-  pub pushed-out : (n id second : ℕ) (down put saved : List ℕ) → n ≡ rememberedCount rec → mostRemembered ≤ n → down ≡ moved_to rec 0 1 15
-      → put ≡ withFinished down 15 (record { id = id; second = second }) → saved ≡ withCount put mostRemembered → saved ≡ rememberedIn rec (record { id = id; second = second })
-  unfolding rememberedIn
-  pushed-out n id second down put saved e h m p s = rw (le-ltb (rememberedCount rec) mostRemembered (omega arith)) (cc)
+  pub pushed_out : (n id second : ℕ) (down put saved : List ℕ) → n ≡ remembered_count rec → most_remembered ≤ n → down ≡ moved_to rec 0 1 15
+      → put ≡ with_finished down 15 (record { id = id; second = second }) → saved ≡ with_count put most_remembered → saved ≡ remembered_in rec (record { id = id; second = second })
+  unfolding remembered_in
+  pushed_out n id second down put saved e h m p s = rw (le-ltb (remembered_count rec) most_remembered (omega arith)) (cc)
 
   -- the k-th is due, or it is not
-  module _ (second kept k s : ℕ) (due : Bool) (es : s ≡ (finishedAt rec k).second) (ed : due ≡ longAgo s second) where
-    is-due : isDue second (finishedAt rec k) ≡ due
-    unfolding isDue
-    is-due = sym (ed ∙ ap (λ (z : ℕ). longAgo z second) es)
+  module _ (second kept k s : ℕ) (due : Bool) (es : s ≡ (finished_at rec k).second) (ed : due ≡ long_ago s second) where
+    is_due_lem : is_due second (finished_at rec k) ≡ due
+    unfolding is_due
+    is_due_lem = sym (ed ∙ ap (λ (z : ℕ). long_ago z second) es)
 
-    pub passed-by : due ≡ true → sifted rec kept ≡ siftedOne second k (sifted rec kept)
-    unfolding siftedOne
-    passed-by t = rw (is-due, t) refl
+    pub passed_by : due ≡ true → sifted rec kept ≡ sifted_one second k (sifted rec kept)
+    unfolding sifted_one
+    passed_by t = rw (is_due_lem, t) refl
 
-    pub kept-one : (down : List ℕ) → due ≡ false → down ≡ moved_to rec kept k 1 → sifted down (kept + 1) ≡ siftedOne second k (sifted rec kept)
-    unfolding siftedOne
-    kept-one down t e = rw (is-due, t, e) refl
+    pub kept_one : (down : List ℕ) → due ≡ false → down ≡ moved_to rec kept k 1 → sifted down (kept + 1) ≡ sifted_one second k (sifted rec kept)
+    unfolding sifted_one
+    kept_one down t e = rw (is_due_lem, t, e) refl
 
   -- one more sifted, and all
-  pub sifted-turn : (second k kept next : ℕ) (x y : List ℕ) → sifted x kept ≡ siftedTo second rec k → sifted y next ≡ siftedOne second k (sifted x kept) → sifted y next ≡ siftedTo second rec (k + 1)
-  sifted-turn second k kept next x y e f = rw (add-one k) (f ∙ ap (siftedOne second k) e)
+  pub sifted_turn : (second k kept next : ℕ) (x y : List ℕ) → sifted x kept ≡ sifted_to second rec k → sifted y next ≡ sifted_one second k (sifted x kept) → sifted y next ≡ sifted_to second rec (k + 1)
+  sifted_turn second k kept next x y e f = rw (add-one k) (f ∙ ap (sifted_one second k) e)
 
-  pub sifted-end : (second k kept : ℕ) (x saved : List ℕ) → sifted x kept ≡ siftedTo second rec k → k ≡ rememberedCount rec → saved ≡ withCount x kept → saved ≡ forgottenIn second rec
-  unfolding forgottenIn
-  sifted-end second k kept x saved e h s =
-      s ∙ ap (λ (z : Sifted). withCount z.rec z.count) (e ∙ ap (siftedTo second rec) h)
+  pub sifted_end : (second k kept : ℕ) (x saved : List ℕ) → sifted x kept ≡ sifted_to second rec k → k ≡ remembered_count rec → saved ≡ with_count x kept → saved ≡ forgotten_in second rec
+  unfolding forgotten_in
+  sifted_end second k kept x saved e h s =
+      s ∙ ap (λ (z : Sifted). with_count z.rec z.count) (e ∙ ap (sifted_to second rec) h)

@@ -1,15 +1,15 @@
 // The finished messages of a neighbour that are remembered, in its share of the record: 16 ids, 16 seconds and how many of them are in use.
 ghost use Rattle.std.specs.Prelude.{◌≡◌, ◌+◌, ◌<◌, ◌≤◌, length};
-ghost use Rattle.reassembly.specs.Sizes.{mostRemembered, shareSize};
+ghost use Rattle.reassembly.specs.Sizes.{most_remembered, share_size};
 ghost use Rattle.reassembly.specs.Memory.{remembers};
-ghost use Rattle.reassembly.specs.Remembered.{rememberedCount, finishedAt, memoryOf, withCount, withFinished, moved_to, rememberedIn, sifted, siftedOne, forgottenIn};
+ghost use Rattle.reassembly.specs.Remembered.{remembered_count, finished_at, memory_of, with_count, with_finished, moved_to, remembered_in, sifted, sifted_one, forgotten_in};
 
 use reassembly::{COUNT_AT, ID_SIZE, IDS_AT, MOST_REMEMBERED, SECOND_SIZE, SECONDS_AT};
 
 // How many are remembered: a count above 16 is read as 16.
 fn count_of(rec: &[u8]) -> usize
-    requires { shareSize ≤ length rec.now }
-    ensures { (result ≡ rememberedCount rec.now) × (result ≤ mostRemembered) }
+    requires { share_size ≤ length rec.now }
+    ensures { (result ≡ remembered_count rec.now) × (result ≤ most_remembered) }
 {
     let n = wire::usize_from_u8(rec[COUNT_AT]);
     if n < MOST_REMEMBERED {
@@ -19,30 +19,30 @@ fn count_of(rec: &[u8]) -> usize
 }
 
 fn save_count(rec: &mut [u8], n: usize)
-    requires { (shareSize ≤ length rec.old) × (n ≤ mostRemembered) }
-    ensures { rec.new ≡ withCount rec.old n }
+    requires { (share_size ≤ length rec.old) × (n ≤ most_remembered) }
+    ensures { rec.new ≡ with_count rec.old n }
 {
     rec[COUNT_AT] = n as u8;
 }
 
 fn id_at(rec: &[u8], k: usize) -> u32
-    requires { (shareSize ≤ length rec.now) × (k < mostRemembered) }
-    ensures { result ≡ (finishedAt rec.now k).id }
+    requires { (share_size ≤ length rec.now) × (k < most_remembered) }
+    ensures { result ≡ (finished_at rec.now k).id }
 {
     wire_numbers::le_u32(rec, IDS_AT + k * ID_SIZE)
 }
 
 fn second_at(rec: &[u8], k: usize) -> u64
-    requires { (shareSize ≤ length rec.now) × (k < mostRemembered) }
-    ensures { result ≡ (finishedAt rec.now k).second }
+    requires { (share_size ≤ length rec.now) × (k < most_remembered) }
+    ensures { result ≡ (finished_at rec.now k).second }
 {
     wire_numbers::le_u64(rec, SECONDS_AT + k * SECOND_SIZE)
 }
 
 // An id and its finishing second stand as the k-th.
 fn put(rec: &mut [u8], k: usize, id: u32, second: u64)
-    requires { (shareSize ≤ length rec.old) × (k < mostRemembered) }
-    ensures { rec.new ≡ withFinished rec.old k (record { id = id; second = second }) }
+    requires { (share_size ≤ length rec.old) × (k < most_remembered) }
+    ensures { rec.new ≡ with_finished rec.old k (record { id = id; second = second }) }
 {
     wire_numbers::put_u32_le(rec, IDS_AT + k * ID_SIZE, id);
     wire_numbers::put_u64_le(rec, SECONDS_AT + k * SECOND_SIZE, second);
@@ -50,7 +50,7 @@ fn put(rec: &mut [u8], k: usize, id: u32, second: u64)
 
 // n of them from the k-th on move down to the j-th.
 fn move_to(rec: &mut [u8], j: usize, k: usize, n: usize)
-    requires { (shareSize ≤ length rec.old) × (j ≤ k) × (k + n ≤ mostRemembered) }
+    requires { (share_size ≤ length rec.old) × (j ≤ k) × (k + n ≤ most_remembered) }
     ensures { rec.new ≡ moved_to rec.old j k n }
 {
     wire::move_down(rec, IDS_AT + j * ID_SIZE, IDS_AT + k * ID_SIZE, n * ID_SIZE);
@@ -64,8 +64,8 @@ fn move_to(rec: &mut [u8], j: usize, k: usize, n: usize)
 
 // Whether an id is remembered. All ids are looked at: so the compiler compares several at once.
 pub fn remembers(rec: &[u8], id: u32) -> bool
-    requires { shareSize ≤ length rec.now }
-    ensures { result ≡ remembers (memoryOf rec.now) id }
+    requires { share_size ≤ length rec.now }
+    ensures { result ≡ remembers (memory_of rec.now) id }
 {
     let count = count_of(rec);
     let mut found = false;
@@ -79,8 +79,8 @@ pub fn remembers(rec: &[u8], id: u32) -> bool
 
 // A message finished: its id is remembered with its finishing second; where 16 are, the first is pushed out.
 pub fn remember(rec: &mut [u8], id: u32, second: u64)
-    requires { shareSize ≤ length rec.old }
-    ensures { rec.new ≡ rememberedIn rec.old (record { id = id; second = second }) }
+    requires { share_size ≤ length rec.old }
+    ensures { rec.new ≡ remembered_in rec.old (record { id = id; second = second }) }
 {
     let n = count_of(rec);
     if n < MOST_REMEMBERED {
@@ -95,8 +95,8 @@ pub fn remember(rec: &mut [u8], id: u32, second: u64)
 
 // The k-th, where it is due, is passed by; else it moves down behind those that are kept. How many are kept then.
 fn sift_one(rec: &mut [u8], kept: usize, k: usize, second: u64) -> usize
-    requires { (shareSize ≤ length rec.old) × (kept ≤ k) × (k < mostRemembered) }
-    ensures { (sifted rec.new result ≡ siftedOne second k (sifted rec.old kept)) × (result ≤ k + 1) }
+    requires { (share_size ≤ length rec.old) × (kept ≤ k) × (k < most_remembered) }
+    ensures { (sifted rec.new result ≡ sifted_one second k (sifted rec.old kept)) × (result ≤ k + 1) }
 {
     if reassembly_judge::long_ago(second_at(rec, k), second) {
         return kept;
@@ -107,8 +107,8 @@ fn sift_one(rec: &mut [u8], kept: usize, k: usize, second: u64) -> usize
 
 // A sweep forgets the finished messages that are due.
 pub fn forget(rec: &mut [u8], second: u64)
-    requires { shareSize ≤ length rec.old }
-    ensures { rec.new ≡ forgottenIn second rec.old }
+    requires { share_size ≤ length rec.old }
+    ensures { rec.new ≡ forgotten_in second rec.old }
 {
     let n = count_of(rec);
     let mut kept = 0;

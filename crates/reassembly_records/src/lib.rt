@@ -1,14 +1,14 @@
 // A neighbour's share of the record: 4 heads of 24 bytes, then 4 tables of 128 entries of 4 bytes. All zero is the empty store.
 ghost use Rattle.std.specs.Prelude.{◌≡◌, ◌+◌, ◌*◌, ◌<◌, ◌≤◌, length, replicate};
 ghost use Rattle.wire.specs.Parts.{splice};
-ghost use Rattle.reassembly.specs.Sizes.{headSize, entrySize, shareSize};
-ghost use Rattle.reassembly.specs.Record.{headOf, entryOf, headAt, with_head, entry_at, withEntry, cleared};
+ghost use Rattle.reassembly.specs.Sizes.{head_size, entry_size, share_size};
+ghost use Rattle.reassembly.specs.Record.{head_of, entry_of, head_at, with_head, entry_at, with_entry, cleared};
 
 use reassembly::{ENTRY_SIZE, Entry, HEAD_SIZE, Head, TABLE_SIZE, TABLES_AT};
 
 fn head_of(b: &[u8]) -> Head
-    requires { length b.now ≡ headSize }
-    ensures { result ≡ headOf b.now }
+    requires { length b.now ≡ head_size }
+    ensures { result ≡ head_of b.now }
 {
     Head {
         id: wire_numbers::le_u32(b, 0),
@@ -24,8 +24,8 @@ fn head_of(b: &[u8]) -> Head
 
 // The head of slot i.
 pub fn load_head(rec: &[u8], i: usize) -> Head
-    requires { (shareSize ≤ length rec.now) × (i < 4) }
-    ensures { result ≡ headAt rec.now i }
+    requires { (share_size ≤ length rec.now) × (i < 4) }
+    ensures { result ≡ head_at rec.now i }
 {
     let a = i * HEAD_SIZE;
     let e = a + HEAD_SIZE;
@@ -33,7 +33,7 @@ pub fn load_head(rec: &[u8], i: usize) -> Head
 }
 
 pub fn save_head(rec: &mut [u8], i: usize, h: Head)
-    requires { (shareSize ≤ length rec.old) × (i < 4) }
+    requires { (share_size ≤ length rec.old) × (i < 4) }
     ensures { rec.new ≡ with_head rec.old i h }
 {
     let at = i * HEAD_SIZE;
@@ -46,8 +46,8 @@ pub fn save_head(rec: &mut [u8], i: usize, h: Head)
 }
 
 fn entry_of(b: &[u8]) -> Entry
-    requires { length b.now ≡ entrySize }
-    ensures { result ≡ entryOf b.now }
+    requires { length b.now ≡ entry_size }
+    ensures { result ≡ entry_of b.now }
 {
     Entry {
         place: wire_numbers::le_u16(b, 0),
@@ -57,7 +57,7 @@ fn entry_of(b: &[u8]) -> Entry
 
 // The entry of number k in slot i.
 pub fn load_entry(rec: &[u8], i: usize, k: usize) -> Entry
-    requires { (shareSize ≤ length rec.now) × (i < 4) × (k < 128) }
+    requires { (share_size ≤ length rec.now) × (i < 4) × (k < 128) }
     ensures { result ≡ entry_at rec.now i k }
 {
     let a = TABLES_AT + i * TABLE_SIZE + k * ENTRY_SIZE;
@@ -66,8 +66,8 @@ pub fn load_entry(rec: &[u8], i: usize, k: usize) -> Entry
 }
 
 pub fn save_entry(rec: &mut [u8], i: usize, k: usize, e: Entry)
-    requires { (shareSize ≤ length rec.old) × (i < 4) × (k < 128) }
-    ensures { rec.new ≡ withEntry rec.old i k e }
+    requires { (share_size ≤ length rec.old) × (i < 4) × (k < 128) }
+    ensures { rec.new ≡ with_entry rec.old i k e }
 {
     let at = TABLES_AT + i * TABLE_SIZE + k * ENTRY_SIZE;
     wire_numbers::put_u16_le(rec, at, e.place);
@@ -88,7 +88,7 @@ pub fn clear(b: &mut [u8], at: usize, n: usize)
 
 // No number of slot i is held.
 pub fn clear_entries(rec: &mut [u8], i: usize)
-    requires { (shareSize ≤ length rec.old) × (i < 4) }
+    requires { (share_size ≤ length rec.old) × (i < 4) }
     ensures { rec.new ≡ cleared rec.old i }
 {
     clear(rec, TABLES_AT + i * TABLE_SIZE, TABLE_SIZE);

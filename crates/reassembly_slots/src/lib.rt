@@ -3,8 +3,8 @@ pub mod pieces; // pieces.rt: held pieces, and the message that they make
 pub mod summary; // summary.rt: how many messages are open
 
 ghost use Rattle.std.specs.Prelude.{◌≡◌, ◌&&◌, not, ◌≤◌, eqb, length};
-ghost use Rattle.reassembly.specs.Sizes.{shareSize};
-ghost use Rattle.reassembly.specs.Slots.{firstFrom, isOpenAs, isFree};
+ghost use Rattle.reassembly.specs.Sizes.{share_size};
+ghost use Rattle.reassembly.specs.Slots.{first_from, is_open_as, is_free};
 
 use reassembly::Head;
 
@@ -16,8 +16,8 @@ fn opened_as(h: Head, id: u32) -> bool
 
 // The slot of the open message with an id, or 4.
 pub fn find(rec: &[u8], id: u32) -> usize
-    requires { shareSize ≤ length rec.now }
-    ensures { result ≡ firstFrom (isOpenAs rec.now id) 0 4 }
+    requires { share_size ≤ length rec.now }
+    ensures { result ≡ first_from (is_open_as rec.now id) 0 4 }
 {
     let mut i = 0;
     while i < 4 {
@@ -37,8 +37,8 @@ fn unused(h: Head) -> bool
 
 // The first free slot, or 4.
 pub fn vacant(rec: &[u8]) -> usize
-    requires { shareSize ≤ length rec.now }
-    ensures { result ≡ firstFrom (isFree rec.now) 0 4 }
+    requires { share_size ≤ length rec.now }
+    ensures { result ≡ first_from (is_free rec.now) 0 4 }
 {
     let mut i = 0;
     while i < 4 {

@@ -1,9 +1,9 @@
 // Held pieces as parts of the room, and the message that they make.
 ghost use Rattle.std.specs.Prelude.{◌≡◌, false, ◌+◌, ◌<◌, ◌≤◌, length};
 ghost use Rattle.wire.specs.Parts.{splice};
-ghost use Rattle.reassembly.specs.Sizes.{slotSize, shareRoom, shareSize};
+ghost use Rattle.reassembly.specs.Sizes.{slot_size, share_room, share_size};
 ghost use Rattle.reassembly.specs.Record.{entry_at, outside, piece_at};
-ghost use Rattle.reassembly.specs.Joining.{pieceOr, messageOf, outsideOr, joinsOutside, lengthOr, sum_of};
+ghost use Rattle.reassembly.specs.Joining.{piece_or, message_of, outside_or, joins_outside, length_or, sum_of};
 
 use reassembly::{Entry, SLOT_SIZE};
 use wire::usize_from_u16;
@@ -24,7 +24,7 @@ pub fn outside(e: Entry) -> bool
 
 // Number k of slot i, as the part of the room that its entry names.
 pub fn piece<'a>(rec: &[u8], room: &'a [u8], i: usize, k: usize) -> &'a [u8]
-    requires { (shareSize ≤ length rec.now) × (shareRoom ≤ length room.now) × (i < 4) × (k < 128) × (outside (entry_at rec.now i k) ≡ false) }
+    requires { (share_size ≤ length rec.now) × (share_room ≤ length room.now) × (i < 4) × (k < 128) × (outside (entry_at rec.now i k) ≡ false) }
     ensures { result.now ≡ piece_at rec.now room.now i k }
 {
     let e = reassembly_records::load_entry(rec, i, k);
@@ -39,8 +39,8 @@ pub fn piece<'a>(rec: &[u8], room: &'a [u8], i: usize, k: usize) -> &'a [u8]
 
 // Number k measured, where number m is v.
 fn measure_one(rec: &[u8], i: usize, m: usize, v: &[u8], k: usize) -> Measured
-    requires { (shareSize ≤ length rec.now) × (i < 4) × (k < 128) × (length v.now ≤ 1500) }
-    ensures { (result.outside ≡ outsideOr rec.now i m k) × (result.size ≡ lengthOr rec.now i m (length v.now) k) × (result.size ≤ slotSize) }
+    requires { (share_size ≤ length rec.now) × (i < 4) × (k < 128) × (length v.now ≤ 1500) }
+    ensures { (result.outside ≡ outside_or rec.now i m k) × (result.size ≡ length_or rec.now i m (length v.now) k) × (result.size ≤ slot_size) }
 {
     if k == m {
         return Measured {
@@ -57,8 +57,8 @@ fn measure_one(rec: &[u8], i: usize, m: usize, v: &[u8], k: usize) -> Measured
 
 // The message of the numbers up to last measured, where number m is v.
 pub fn measure(rec: &[u8], i: usize, m: usize, v: &[u8], last: usize) -> Measured
-    requires { (shareSize ≤ length rec.now) × (i < 4) × (last < 128) × (length v.now ≤ 1500) }
-    ensures { (result.outside ≡ joinsOutside rec.now i m (last + 1)) × (result.size ≡ sum_of (lengthOr rec.now i m (length v.now)) (last + 1)) }
+    requires { (share_size ≤ length rec.now) × (i < 4) × (last < 128) × (length v.now ≤ 1500) }
+    ensures { (result.outside ≡ joins_outside rec.now i m (last + 1)) × (result.size ≡ sum_of (length_or rec.now i m (length v.now)) (last + 1)) }
 {
     let mut outside = false;
     let mut size = 0;
@@ -83,8 +83,8 @@ fn lay_down(
     v: &[u8],
     k: usize,
 ) -> usize
-    requires { (shareSize ≤ length rec.now) × (shareRoom ≤ length room.now) × (i < 4) × (k < 128) × (outsideOr rec.now i m k ≡ false) × (at + length (pieceOr rec.now room.now i m v.now k) ≤ length out.old) }
-    ensures { (result ≡ at + length (pieceOr rec.now room.now i m v.now k)) × (out.new ≡ splice out.old at (pieceOr rec.now room.now i m v.now k)) }
+    requires { (share_size ≤ length rec.now) × (share_room ≤ length room.now) × (i < 4) × (k < 128) × (outside_or rec.now i m k ≡ false) × (at + length (piece_or rec.now room.now i m v.now k) ≤ length out.old) }
+    ensures { (result ≡ at + length (piece_or rec.now room.now i m v.now k)) × (out.new ≡ splice out.old at (piece_or rec.now room.now i m v.now k)) }
 {
     if k == m {
         wire::copy_to(out, at, v);
@@ -97,8 +97,8 @@ fn lay_down(
 
 // The message of the numbers up to last, where number m is v, is put to the start of out; the rest of out stays.
 pub fn assemble(rec: &[u8], room: &[u8], out: &mut [u8], i: usize, m: usize, v: &[u8], last: usize)
-    requires { (shareSize ≤ length rec.now) × (shareRoom ≤ length room.now) × (i < 4) × (last < 128) × (joinsOutside rec.now i m (last + 1) ≡ false) × (length (messageOf rec.now room.now i m v.now (last + 1)) ≤ length out.old) }
-    ensures { out.new ≡ splice out.old 0 (messageOf rec.now room.now i m v.now (last + 1)) }
+    requires { (share_size ≤ length rec.now) × (share_room ≤ length room.now) × (i < 4) × (last < 128) × (joins_outside rec.now i m (last + 1) ≡ false) × (length (message_of rec.now room.now i m v.now (last + 1)) ≤ length out.old) }
+    ensures { out.new ≡ splice out.old 0 (message_of rec.now room.now i m v.now (last + 1)) }
 {
     let mut at = 0;
     let mut k = 0;

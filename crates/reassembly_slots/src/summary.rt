@@ -1,22 +1,22 @@
 // The summary's number of a neighbour, a byte of its share of the record: how many messages it has open.
 ghost use Rattle.std.specs.Prelude.{◌≡◌, ◌-◌, ◌≤◌, length};
-ghost use Rattle.reassembly.specs.Sizes.{shareSize};
-ghost use Rattle.reassembly.specs.Summary.{openCount, withOpen, lowered};
+ghost use Rattle.reassembly.specs.Sizes.{share_size};
+ghost use Rattle.reassembly.specs.Summary.{open_count, with_open, lowered};
 
 use reassembly::OPEN_AT;
 
 // How many messages are open.
 pub fn open_count(rec: &[u8]) -> u8
-    requires { shareSize ≤ length rec.now }
-    ensures { result ≡ openCount rec.now }
+    requires { share_size ≤ length rec.now }
+    ensures { result ≡ open_count rec.now }
 {
     rec[OPEN_AT]
 }
 
 // So many are open now.
 pub fn save_open(rec: &mut [u8], n: u8)
-    requires { shareSize ≤ length rec.old }
-    ensures { rec.new ≡ withOpen rec.old n }
+    requires { share_size ≤ length rec.old }
+    ensures { rec.new ≡ with_open rec.old n }
 {
     rec[OPEN_AT] = n;
 }
@@ -32,7 +32,7 @@ fn less_one(n: u8) -> u8
 
 // One message less is open; never less than none.
 pub fn lower(rec: &mut [u8])
-    requires { shareSize ≤ length rec.old }
+    requires { share_size ≤ length rec.old }
     ensures { rec.new ≡ lowered rec.old }
 {
     let n = less_one(open_count(rec));

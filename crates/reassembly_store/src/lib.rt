@@ -1,11 +1,11 @@
 // Pieces of messages of four neighbours, put together: the store of document 01, with the fair slots of request P12.
 ghost use Rattle.std.specs.Prelude.{◌≡◌, false, ◌<◌, ◌≤◌, length};
-ghost use Rattle.reassembly.specs.Sizes.{shareSize, recordSize};
+ghost use Rattle.reassembly.specs.Sizes.{share_size, record_size};
 ghost use Rattle.reassembly.specs.Store.{first, follow};
-ghost use Rattle.reassembly.specs.Neighbours.{stepFrom};
-ghost use Rattle.reassembly.specs.Calls.{lent, after, sweptAt, sweptTo, shareSwept};
-ghost use Rattle.reassembly.specs.Shares.{lentShort, firstCall, followOnCall, sharesSwept, swept, renewed, renewal};
-ghost use Rattle.reassembly.specs.Standing.{neighboursOf, AllMade, AllAgree, SweepAgrees, NewAgrees};
+ghost use Rattle.reassembly.specs.Neighbours.{step_from};
+ghost use Rattle.reassembly.specs.Calls.{lent, after, swept_at, swept_to, share_swept};
+ghost use Rattle.reassembly.specs.Shares.{lent_short, first_call, follow_on_call, shares_swept, swept, renewed, renewal};
+ghost use Rattle.reassembly.specs.Standing.{neighbours_of, AllMade, AllAgree, SweepAgrees, NewAgrees};
 
 use reassembly::{Label, RECORD_SIZE, ROOM_SIZE, Reply, SHARE_ROOM, SHARE_SIZE};
 use reassembly_slots::summary;
@@ -13,7 +13,7 @@ use reassembly_taking::bare;
 
 // 59: the lent record or room is short.
 fn is_short(rec: &[u8], room: &[u8]) -> bool
-    ensures { result ≡ lentShort rec.now room.now }
+    ensures { result ≡ lent_short rec.now room.now }
 {
     (rec.len() < RECORD_SIZE) | (room.len() < ROOM_SIZE)
 }
@@ -31,8 +31,8 @@ pub fn first_fragment(
     second: u64,
     bytes: &[u8],
 ) -> Reply
-    ensures out_after { after result (lent rec.new room.new out.new) ≡ firstCall (lent rec.old room.old out.old) neighbour (record { id = id; number = 0; last = false; kind = kind; expires = expires }) second bytes.now }
-    ensures all_agree { AllMade rec.old room.old → AllAgree out.old (after result (lent rec.new room.new out.new)) (stepFrom (length out.old) (neighboursOf rec.old room.old) neighbour (first id kind expires bytes.now) second) }
+    ensures out_after { after result (lent rec.new room.new out.new) ≡ first_call (lent rec.old room.old out.old) neighbour (record { id = id; number = 0; last = false; kind = kind; expires = expires }) second bytes.now }
+    ensures all_agree { AllMade rec.old room.old → AllAgree out.old (after result (lent rec.new room.new out.new)) (step_from (length out.old) (neighbours_of rec.old room.old) neighbour (first id kind expires bytes.now) second) }
 {
     if is_short(rec, room) {
         return bare(59);
@@ -67,8 +67,8 @@ pub fn follow_on_fragment(
     second: u64,
     bytes: &[u8],
 ) -> Reply
-    ensures out_after { after result (lent rec.new room.new out.new) ≡ followOnCall (lent rec.old room.old out.old) neighbour (record { id = id; number = number; last = last; kind = 0; expires = 0 }) second bytes.now }
-    ensures all_agree { AllMade rec.old room.old → AllAgree out.old (after result (lent rec.new room.new out.new)) (stepFrom (length out.old) (neighboursOf rec.old room.old) neighbour (follow id number last bytes.now) second) }
+    ensures out_after { after result (lent rec.new room.new out.new) ≡ follow_on_call (lent rec.old room.old out.old) neighbour (record { id = id; number = number; last = last; kind = 0; expires = 0 }) second bytes.now }
+    ensures all_agree { AllMade rec.old room.old → AllAgree out.old (after result (lent rec.new room.new out.new)) (step_from (length out.old) (neighbours_of rec.old room.old) neighbour (follow id number last bytes.now) second) }
 {
     if is_short(rec, room) {
         return bare(59);
@@ -93,8 +93,8 @@ pub fn follow_on_fragment(
 
 // Slot i of a share is free where its message is old, and one less is open.
 fn sweep_one(rec: &mut [u8], i: usize, second: u64)
-    requires { (shareSize ≤ length rec.old) × (i < 4) }
-    ensures { rec.new ≡ sweptAt second rec.old i }
+    requires { (share_size ≤ length rec.old) × (i < 4) }
+    ensures { rec.new ≡ swept_at second rec.old i }
 {
     if reassembly_judge::is_old(reassembly_records::load_head(rec, i), second) {
         reassembly_records::save_head(rec, i, reassembly_judge::no_head());
@@ -104,8 +104,8 @@ fn sweep_one(rec: &mut [u8], i: usize, second: u64)
 }
 
 fn sweep_slots(rec: &mut [u8], second: u64)
-    requires { shareSize ≤ length rec.old }
-    ensures { rec.new ≡ sweptTo second rec.old 4 }
+    requires { share_size ≤ length rec.old }
+    ensures { rec.new ≡ swept_to second rec.old 4 }
 {
     let mut i = 0;
     while i < 4 {
@@ -116,16 +116,16 @@ fn sweep_slots(rec: &mut [u8], second: u64)
 
 // A neighbour's share swept: old messages are dropped, finished ones that are due are forgotten.
 fn sweep_share(rec: &mut [u8], second: u64)
-    requires { shareSize ≤ length rec.old }
-    ensures { rec.new ≡ shareSwept second rec.old }
+    requires { share_size ≤ length rec.old }
+    ensures { rec.new ≡ share_swept second rec.old }
 {
     sweep_slots(rec, second);
     reassembly_memory::forget(rec, second);
 }
 
 fn sweep_all(rec: &mut [u8], second: u64)
-    requires { recordSize ≤ length rec.old }
-    ensures { rec.new ≡ sharesSwept second rec.old 4 }
+    requires { record_size ≤ length rec.old }
+    ensures { rec.new ≡ shares_swept second rec.old 4 }
 {
     let mut n = 0;
     while n < 4 {

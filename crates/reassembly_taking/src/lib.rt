@@ -1,7 +1,7 @@
 // A piece of a message taken into its neighbour's share of record and room: kept, or its message finished, or refused.
 ghost use Rattle.std.specs.Prelude.{◌≡◌, List, ℕ, ◌+◌, ◌<◌, ◌≤◌, length};
-ghost use Rattle.reassembly.specs.Sizes.{slotSize, shareRoom, shareSize};
-ghost use Rattle.reassembly.specs.Calls.{lent, after, bare, keptRec, keptRoom, finished, put_in, compared, added, openedIn, openedNow, rememberedAfter, takenPiece, badSize, offNumber, firstTaken, followOnTaken};
+ghost use Rattle.reassembly.specs.Sizes.{slot_size, share_room, share_size};
+ghost use Rattle.reassembly.specs.Calls.{lent, after, bare, kept_rec, kept_room, finished, put_in, compared, added, opened_in, opened_now, remembered_after, taken_piece, bad_size, off_number, first_taken, follow_on_taken};
 
 use reassembly::{Entry, Head, Label, MESSAGE_SIZE, Reply, SLOT_SIZE};
 use reassembly_slots::{pieces, summary};
@@ -20,9 +20,9 @@ pub fn bare(n: u8) -> Reply
 
 // A piece is kept as number k of slot i, after the `total` bytes that the slot holds; the slot's head is then g.
 fn keep(rec: &mut [u8], room: &mut [u8], i: usize, k: usize, total: u16, g: Head, bytes: &[u8])
-    requires { (shareSize ≤ length rec.old) × (shareRoom ≤ length room.old) × (i < 4) × (k < 128) × (total + length bytes.now ≤ slotSize) }
-    ensures rec_after { rec.new ≡ keptRec rec.old i k total (length bytes.now) g }
-    ensures room_after { room.new ≡ keptRoom room.old i total bytes.now }
+    requires { (share_size ≤ length rec.old) × (share_room ≤ length room.old) × (i < 4) × (k < 128) × (total + length bytes.now ≤ slot_size) }
+    ensures rec_after { rec.new ≡ kept_rec rec.old i k total (length bytes.now) g }
+    ensures room_after { room.new ≡ kept_room room.old i total bytes.now }
 {
     let n = bytes.len();
     wire::copy_to(room, i * SLOT_SIZE + usize_from_u16(total), bytes);
@@ -48,7 +48,7 @@ fn finish(
     g: Head,
     bytes: &[u8],
 ) -> Reply
-    requires { (shareSize ≤ length rec.old) × (shareRoom ≤ length room.now) × (i < 4) × (g.last < 128) × (length bytes.now ≤ 1500) }
+    requires { (share_size ≤ length rec.old) × (share_room ≤ length room.now) × (i < 4) × (g.last < 128) × (length bytes.now ≤ 1500) }
     ensures { after result (lent rec.new room.now out.new) ≡ finished (lent rec.old room.now out.old) i l g bytes.now }
 {
     let k = usize_from_u8(l.number);
@@ -80,7 +80,7 @@ fn put(
     l: Label,
     bytes: &[u8],
 ) -> Reply
-    requires { (shareSize ≤ length rec.old) × (shareRoom ≤ length room.old) × (i < 4) × (l.number < 128) × (length bytes.now ≤ 1500) }
+    requires { (share_size ≤ length rec.old) × (share_room ≤ length room.old) × (i < 4) × (l.number < 128) × (length bytes.now ≤ 1500) }
     ensures { after result (lent rec.new room.new out.new) ≡ put_in (lent rec.old room.old out.old) i h l bytes.now }
 {
     let n = bytes.len();
@@ -97,7 +97,7 @@ fn put(
 
 // A piece whose number is held in slot i, whose head is h: 59, or 54 or 55.
 fn compare(rec: &[u8], room: &[u8], i: usize, h: Head, l: Label, bytes: &[u8]) -> u8
-    requires { (shareSize ≤ length rec.now) × (shareRoom ≤ length room.now) × (i < 4) × (l.number < 128) }
+    requires { (share_size ≤ length rec.now) × (share_room ≤ length room.now) × (i < 4) × (l.number < 128) }
     ensures { result ≡ compared rec.now room.now i h l bytes.now }
 {
     let k = usize_from_u8(l.number);
@@ -110,7 +110,7 @@ fn compare(rec: &[u8], room: &[u8], i: usize, h: Head, l: Label, bytes: &[u8]) -
 
 // A piece of the open message of slot i: it is compared with the held one, or 55, or it is put.
 fn add(rec: &mut [u8], room: &mut [u8], out: &mut [u8], i: usize, l: Label, bytes: &[u8]) -> Reply
-    requires { (shareSize ≤ length rec.old) × (shareRoom ≤ length room.old) × (i < 4) × (l.number < 128) × (length bytes.now ≤ 1500) }
+    requires { (share_size ≤ length rec.old) × (share_room ≤ length room.old) × (i < 4) × (l.number < 128) × (length bytes.now ≤ 1500) }
     ensures { after result (lent rec.new room.new out.new) ≡ added (lent rec.old room.old out.old) i l bytes.now }
 {
     let h = reassembly_records::load_head(rec, i);
@@ -127,8 +127,8 @@ fn add(rec: &mut [u8], room: &mut [u8], out: &mut [u8], i: usize, l: Label, byte
 
 // A piece of a message that is not open is kept in the free slot i.
 fn open_in(rec: &mut [u8], room: &mut [u8], i: usize, l: Label, second: u64, bytes: &[u8])
-    requires { (shareSize ≤ length rec.old) × (shareRoom ≤ length room.old) × (i < 4) × (l.number < 128) × (length bytes.now ≤ 1500) }
-    ensures { (out : List ℕ) → after (bare 0) (lent rec.new room.new out) ≡ openedIn (lent rec.old room.old out) i l second bytes.now }
+    requires { (share_size ≤ length rec.old) × (share_room ≤ length room.old) × (i < 4) × (l.number < 128) × (length bytes.now ≤ 1500) }
+    ensures { (out : List ℕ) → after (bare 0) (lent rec.new room.new out) ≡ opened_in (lent rec.old room.old out) i l second bytes.now }
 {
     let n = bytes.len();
     reassembly_records::clear_entries(rec, i);
@@ -139,8 +139,8 @@ fn open_in(rec: &mut [u8], room: &mut [u8], i: usize, l: Label, second: u64, byt
 // A piece of a message that is not open: 57 where its id is remembered, or 52, or it is kept in the first free slot. 52 is judged by the summary; no slot is free
 // below that only where no call made the share.
 fn open(rec: &mut [u8], room: &mut [u8], l: Label, second: u64, bytes: &[u8]) -> Reply
-    requires { (shareSize ≤ length rec.old) × (shareRoom ≤ length room.old) × (l.number < 128) × (length bytes.now ≤ 1500) }
-    ensures { (out : List ℕ) → after result (lent rec.new room.new out) ≡ openedNow (lent rec.old room.old out) l second bytes.now }
+    requires { (share_size ≤ length rec.old) × (share_room ≤ length room.old) × (l.number < 128) × (length bytes.now ≤ 1500) }
+    ensures { (out : List ℕ) → after result (lent rec.new room.new out) ≡ opened_now (lent rec.old room.old out) l second bytes.now }
 {
     if reassembly_memory::remembers(rec, l.id) {
         return bare(57);
@@ -160,8 +160,8 @@ fn open(rec: &mut [u8], room: &mut [u8], l: Label, second: u64, bytes: &[u8]) ->
 
 // A piece was answered n: with 60 its message is finished, one less is open, and it is remembered with this second.
 fn remember_finished(rec: &mut [u8], n: u8, id: u32, second: u64)
-    requires { shareSize ≤ length rec.old }
-    ensures { rec.new ≡ rememberedAfter rec.old n (record { id = id; second = second }) }
+    requires { share_size ≤ length rec.old }
+    ensures { rec.new ≡ remembered_after rec.old n (record { id = id; second = second }) }
 {
     if n == 60 {
         summary::lower(rec);
@@ -179,8 +179,8 @@ fn take(
     second: u64,
     bytes: &[u8],
 ) -> Reply
-    requires { (shareSize ≤ length rec.old) × (shareRoom ≤ length room.old) × (l.number < 128) × (length bytes.now ≤ 1500) }
-    ensures { after result (lent rec.new room.new out.new) ≡ takenPiece (lent rec.old room.old out.old) l second bytes.now }
+    requires { (share_size ≤ length rec.old) × (share_room ≤ length room.old) × (l.number < 128) × (length bytes.now ≤ 1500) }
+    ensures { after result (lent rec.new room.new out.new) ≡ taken_piece (lent rec.old room.old out.old) l second bytes.now }
 {
     let i = reassembly_slots::find(rec, l.id);
     if i < 4 {
@@ -193,14 +193,14 @@ fn take(
 
 // 50: a piece has 1 to 1,500 bytes.
 fn bad_size(n: usize) -> bool
-    ensures { result ≡ badSize n }
+    ensures { result ≡ bad_size n }
 {
     (n == 0) | (1500 < n)
 }
 
 // 51: a follow-on piece has a number from 1 to 127.
 fn off_number(k: u8) -> bool
-    ensures { result ≡ offNumber k }
+    ensures { result ≡ off_number k }
 {
     (k == 0) | (127 < k)
 }
@@ -214,8 +214,8 @@ pub fn take_first(
     second: u64,
     bytes: &[u8],
 ) -> Reply
-    requires { (shareSize ≤ length rec.old) × (shareRoom ≤ length room.old) × (l.number < 128) }
-    ensures { after result (lent rec.new room.new out.new) ≡ firstTaken (lent rec.old room.old out.old) l second bytes.now }
+    requires { (share_size ≤ length rec.old) × (share_room ≤ length room.old) × (l.number < 128) }
+    ensures { after result (lent rec.new room.new out.new) ≡ first_taken (lent rec.old room.old out.old) l second bytes.now }
 {
     if bad_size(bytes.len()) {
         return bare(50);
@@ -232,8 +232,8 @@ pub fn take_follow_on(
     second: u64,
     bytes: &[u8],
 ) -> Reply
-    requires { (shareSize ≤ length rec.old) × (shareRoom ≤ length room.old) }
-    ensures { after result (lent rec.new room.new out.new) ≡ followOnTaken (lent rec.old room.old out.old) l second bytes.now }
+    requires { (share_size ≤ length rec.old) × (share_room ≤ length room.old) }
+    ensures { after result (lent rec.new room.new out.new) ≡ follow_on_taken (lent rec.old room.old out.old) l second bytes.now }
 {
     if bad_size(bytes.len()) {
         return bare(50);

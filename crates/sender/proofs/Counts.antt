@@ -7,38 +7,38 @@ use native.Mathlib.Omega.{arith}
 use lib.Dec.{ltb}
 use lib.ListN.{length}
 use borrow.Author.Tests.{lt-ltb, le-ltb, ltb-true, ltb-false}
-use Rattle.wire.specs.Numbers.{littleAt}
-use Rattle.wire.proofs.Series.{length-series}
-use Rattle.sender.specs.Sizes.{mostOutstanding, outstandingAt}
-use Rattle.sender.specs.Recorded.{outstandingCount, packetAt, senderAt}
+use Rattle.wire.specs.Numbers.{little_at}
+use Rattle.wire.proofs.Series.{length_series}
+use Rattle.sender.specs.Sizes.{most_outstanding, outstanding_at}
+use Rattle.sender.specs.Recorded.{outstanding_count, packet_at, sender_at}
 
 module _ (r : List ℕ) where
-  pub count-below : (n : ℕ) → n ≡ littleAt 4 r outstandingAt → n < mostOutstanding → n ≡ outstandingCount r
-  unfolding outstandingCount
-  count-below n e h = rw (← e, lt-ltb n mostOutstanding h) refl
+  pub count_below : (n : ℕ) → n ≡ little_at 4 r outstanding_at → n < most_outstanding → n ≡ outstanding_count r
+  unfolding outstanding_count
+  count_below n e h = rw (← e, lt-ltb n most_outstanding h) refl
 
-  pub count-above : (n : ℕ) → n ≡ littleAt 4 r outstandingAt → mostOutstanding ≤ n → mostOutstanding ≡ outstandingCount r
-  unfolding outstandingCount
-  count-above n e h = rw (← e, le-ltb n mostOutstanding h) refl
+  pub count_above : (n : ℕ) → n ≡ little_at 4 r outstanding_at → most_outstanding ≤ n → most_outstanding ≡ outstanding_count r
+  unfolding outstanding_count
+  count_above n e h = rw (← e, le-ltb n most_outstanding h) refl
 
-  pub count_most : outstandingCount r ≤ mostOutstanding
-  unfolding outstandingCount
-  count_most = go (ltb (littleAt 4 r outstandingAt) mostOutstanding) refl
+  pub count_most : outstanding_count r ≤ most_outstanding
+  unfolding outstanding_count
+  count_most = go (ltb (little_at 4 r outstanding_at) most_outstanding) refl
     where
-      go : (b : Bool) → ltb (littleAt 4 r outstandingAt) mostOutstanding ≡ b → cond (ltb (littleAt 4 r outstandingAt) mostOutstanding) (littleAt 4 r outstandingAt) mostOutstanding ≤ mostOutstanding
-      go true q = rw q (let l : littleAt 4 r outstandingAt < mostOutstanding = ltb-true (littleAt 4 r outstandingAt) mostOutstanding q in omega arith)
+      go : (b : Bool) → ltb (little_at 4 r outstanding_at) most_outstanding ≡ b → cond (ltb (little_at 4 r outstanding_at) most_outstanding) (little_at 4 r outstanding_at) most_outstanding ≤ most_outstanding
+      go true q = rw q (let l : little_at 4 r outstanding_at < most_outstanding = ltb-true (little_at 4 r outstanding_at) most_outstanding q in omega arith)
       go false q = rw q (omega arith)
 
   -- so many stand in the list that is read
-  pub length-outstanding : length (senderAt r).packets ≡ outstandingCount r
-  unfolding senderAt
-  length-outstanding = length-series (packetAt r) 0 (outstandingCount r)
+  pub length_outstanding : length (sender_at r).packets ≡ outstanding_count r
+  unfolding sender_at
+  length_outstanding = length_series (packet_at r) 0 (outstanding_count r)
 
   -- a count of at most 256 is what stands there
-  pub count-is : (n : ℕ) → littleAt 4 r outstandingAt ≡ n → n ≤ mostOutstanding → outstandingCount r ≡ n
-  unfolding outstandingCount
-  count-is n e h = rw e (go (ltb n mostOutstanding) refl)
+  pub count_is : (n : ℕ) → little_at 4 r outstanding_at ≡ n → n ≤ most_outstanding → outstanding_count r ≡ n
+  unfolding outstanding_count
+  count_is n e h = rw e (go (ltb n most_outstanding) refl)
     where
-      go : (b : Bool) → ltb n mostOutstanding ≡ b → cond b n mostOutstanding ≡ n
+      go : (b : Bool) → ltb n most_outstanding ≡ b → cond b n most_outstanding ≡ n
       go true q = refl
-      go false q = let z = ltb-false n mostOutstanding q in omega arith
+      go false q = let z = ltb-false n most_outstanding q in omega arith

@@ -5,115 +5,115 @@ use Prim.Native.Nat.{ℕ, suc, ◌+◌, ◌-◌, ◌*◌, ◌≤◌, ◌<◌}
 use native.Mathlib.Omega.{arith}
 use lib.ListN.{length, length-append}
 use Rattle.wire.specs.Parts.{part, splice}
-use Rattle.wire.specs.Numbers.{Bytes, littleAt, littleBytes}
+use Rattle.wire.specs.Numbers.{Bytes, little_at, little_bytes}
 use Rattle.wire.specs.Series.{series}
-use Rattle.wire.proofs.Parts.{length_part, splice-part, puts}
-use Rattle.wire.proofs.Series.{length-series, series-add}
-use Rattle.sender.specs.Sizes.{mostOutstanding, packetsAt, packetSize, senderSize}
-use Rattle.sender.specs.Sender.{Packet, send, resend, without, place_of, resendsOf, nextPacket, taken}
-use Rattle.sender.specs.Recorded.{outstandingCount, packetAt, senderAt, packetBytes, packetsBytes, senderBytes}
-use Rattle.sender.proofs.Packets.{length-packet, length-packets, packets-append, packets-again, sender-bytes}
-use Rattle.sender.proofs.Counts.{count_most, length-outstanding}
-use Rattle.sender.proofs.Places.{without_at, resends-at}
+use Rattle.wire.proofs.Parts.{length_part, splice_part, puts}
+use Rattle.wire.proofs.Series.{length_series, series_add}
+use Rattle.sender.specs.Sizes.{most_outstanding, packets_at, packet_size, sender_size}
+use Rattle.sender.specs.Sender.{Packet, send, resend, without, place_of, resends_of, next_packet, taken}
+use Rattle.sender.specs.Recorded.{outstanding_count, packet_at, sender_at, packet_bytes, packets_bytes, sender_bytes}
+use Rattle.sender.proofs.Packets.{length_packet, length_packets, packets_append, packets_again, sender_bytes_lem}
+use Rattle.sender.proofs.Counts.{count_most, length_outstanding}
+use Rattle.sender.proofs.Places.{without_at, resends_at}
 
 -- one packet's bytes, as those of a list of one
-packets-one : (p : Packet) → packetsBytes (p ∷ []) ≡ packetBytes p
-unfolding packetsBytes
-packets-one p = append-nil (packetBytes p)
+packets_one : (p : Packet) → packets_bytes (p ∷ []) ≡ packet_bytes p
+unfolding packets_bytes
+packets_one p = append-nil (packet_bytes p)
 
 -- a packet put behind those that are kept, then the head
-last-put : (r : List ℕ) (kept : List Packet) (p : Packet) (highest j count : ℕ) {x y z : List ℕ} → x ≡ splice r packetsAt (packetsBytes kept) → length kept ≡ j → count ≡ j + 1 → packetsAt + count * packetSize ≤ length r
-    → y ≡ splice x (packetsAt + j * packetSize) (packetBytes p) → z ≡ splice y 0 (littleBytes 4 highest ++ littleBytes 4 count) → z ≡ splice r 0 (senderBytes (record { highest = highest; packets = kept ++ (p ∷ []) }))
-last-put r kept p highest j count {x} {y} {z} ex lk ec fits ey ez =
+last_put : (r : List ℕ) (kept : List Packet) (p : Packet) (highest j count : ℕ) {x y z : List ℕ} → x ≡ splice r packets_at (packets_bytes kept) → length kept ≡ j → count ≡ j + 1 → packets_at + count * packet_size ≤ length r
+    → y ≡ splice x (packets_at + j * packet_size) (packet_bytes p) → z ≡ splice y 0 (little_bytes 4 highest ++ little_bytes 4 count) → z ≡ splice r 0 (sender_bytes (record { highest = highest; packets = kept ++ (p ∷ []) }))
+last_put r kept p highest j count {x} {y} {z} ex lk ec fits ey ez =
     let all : length (kept ++ (p ∷ [])) ≡ count = length-append kept (p ∷ []) ∙ omega arith in
-    let lb : length (packetsBytes kept) ≡ j * packetSize = length-packets kept ∙ ap (λ (n : ℕ). n * packetSize) lk in
-    let both : y ≡ splice r packetsAt (packetsBytes kept ++ packetBytes p) = (puts r packetsAt (j * packetSize) packetSize (packetsAt + j * packetSize) (packetsBytes kept) (packetBytes p) lb (length-packet p) refl (omega arith) ex ey).0 in
-    let bytes : packetsBytes kept ++ packetBytes p ≡ packetsBytes (kept ++ (p ∷ [])) = sym (packets-append kept (p ∷ []) ∙ ap (λ (l : List ℕ). packetsBytes kept ++ l) (packets-one p)) in
+    let lb : length (packets_bytes kept) ≡ j * packet_size = length_packets kept ∙ ap (λ (n : ℕ). n * packet_size) lk in
+    let both : y ≡ splice r packets_at (packets_bytes kept ++ packet_bytes p) = (puts r packets_at (j * packet_size) packet_size (packets_at + j * packet_size) (packets_bytes kept) (packet_bytes p) lb (length_packet p) refl (omega arith) ex ey).0 in
+    let bytes : packets_bytes kept ++ packet_bytes p ≡ packets_bytes (kept ++ (p ∷ [])) = sym (packets_append kept (p ∷ []) ∙ ap (λ (l : List ℕ). packets_bytes kept ++ l) (packets_one p)) in
     ez
-    ∙ ap (λ (l : List ℕ). splice l 0 (littleBytes 4 highest ++ littleBytes 4 count)) (both ∙ ap (splice r packetsAt) bytes)
-    ∙ sender-bytes r highest count (kept ++ (p ∷ [])) (sym all) (omega arith)
+    ∙ ap (λ (l : List ℕ). splice l 0 (little_bytes 4 highest ++ little_bytes 4 count)) (both ∙ ap (splice r packets_at) bytes)
+    ∙ sender_bytes_lem r highest count (kept ++ (p ∷ [])) (sym all) (omega arith)
 
-module _ (r : List ℕ) (bytes : Bytes r) (long : senderSize ≤ length r) (count highest second : ℕ) (is-count : count ≡ outstandingCount r) (is-highest : highest ≡ littleAt 4 r 0) where
+module _ (r : List ℕ) (bytes : Bytes r) (long : sender_size ≤ length r) (count highest second : ℕ) (is-count : count ≡ outstanding_count r) (is-highest : highest ≡ little_at 4 r 0) where
   -- the packets stand there
-  stand : r ≡ splice r packetsAt (packetsBytes (senderAt r).packets)
-  unfolding senderAt
+  stand : r ≡ splice r packets_at (packets_bytes (sender_at r).packets)
+  unfolding sender_at
   stand =
-      let most : outstandingCount r ≤ mostOutstanding = count_most r in
-      sym (ap (splice r packetsAt) (packets-again r 0 (outstandingCount r) bytes (omega arith)) ∙ splice-part r packetsAt (outstandingCount r * packetSize) (omega arith))
+      let most : outstanding_count r ≤ most_outstanding = count_most r in
+      sym (ap (splice r packets_at) (packets_again r 0 (outstanding_count r) bytes (omega arith)) ∙ splice_part r packets_at (outstanding_count r * packet_size) (omega arith))
 
   -- ---- sent
 
-  pub sent : (y z : List ℕ) → count < mostOutstanding
-      → y ≡ splice r (packetsAt + count * packetSize) (packetBytes (nextPacket highest second 0)) → z ≡ splice y 0 (littleBytes 4 (highest + 1) ++ littleBytes 4 (count + 1))
-      → z ≡ splice r 0 (senderBytes (taken (senderAt r) (send second)))
-  unfolding taken senderAt
+  pub sent : (y z : List ℕ) → count < most_outstanding
+      → y ≡ splice r (packets_at + count * packet_size) (packet_bytes (next_packet highest second 0)) → z ≡ splice y 0 (little_bytes 4 (highest + 1) ++ little_bytes 4 (count + 1))
+      → z ≡ splice r 0 (sender_bytes (taken (sender_at r) (send second)))
+  unfolding taken sender_at
   sent y z room ey ez =
-      let ps : List Packet = (senderAt r).packets in
-      last-put r ps (nextPacket highest second 0) (highest + 1) count (count + 1) stand (length-outstanding r ∙ sym is-count) refl (omega arith) ey ez
-      ∙ ap (λ (h : ℕ). splice r 0 (senderBytes (record { highest = h + 1; packets = ps ++ (nextPacket h second 0 ∷ []) }))) is-highest
+      let ps : List Packet = (sender_at r).packets in
+      last_put r ps (next_packet highest second 0) (highest + 1) count (count + 1) stand (length_outstanding r ∙ sym is-count) refl (omega arith) ey ez
+      ∙ ap (λ (h : ℕ). splice r 0 (sender_bytes (record { highest = h + 1; packets = ps ++ (next_packet h second 0 ∷ []) }))) is-highest
 
   -- ---- sent again: those behind the old one move down
 
-  module _ (n k : ℕ) (is-place : k ≡ place_of n (senderAt r).packets) (there : k < count) where
+  module _ (n k : ℕ) (is-place : k ≡ place_of n (sender_at r).packets) (there : k < count) where
     front : List Packet
-    front = series (packetAt r) 0 k
+    front = series (packet_at r) 0 k
 
     behind : List Packet
-    behind = series (packetAt r) (k + 1) (count - k - 1)
+    behind = series (packet_at r) (k + 1) (count - k - 1)
 
-    in_three : (senderAt r).packets ≡ front ++ (packetAt r k ∷ behind)
-    unfolding senderAt front behind
+    in_three : (sender_at r).packets ≡ front ++ (packet_at r k ∷ behind)
+    unfolding sender_at front behind
     in_three =
-        let e : outstandingCount r ≡ k + suc (count - k - 1) = omega arith in
+        let e : outstanding_count r ≡ k + suc (count - k - 1) = omega arith in
         let z : 0 + k ≡ k = omega arith in
-        ap (series (packetAt r) 0) e
-        ∙ series-add (packetAt r) 0 k (suc (count - k - 1))
-        ∙ ap (λ (i : ℕ). series (packetAt r) 0 k ++ series (packetAt r) i (suc (count - k - 1))) z
+        ap (series (packet_at r) 0) e
+        ∙ series_add (packet_at r) 0 k (suc (count - k - 1))
+        ∙ ap (λ (i : ℕ). series (packet_at r) 0 k ++ series (packet_at r) i (suc (count - k - 1))) z
 
-    at_place : place_of n (front ++ (packetAt r k ∷ behind)) ≡ length front
+    at_place : place_of n (front ++ (packet_at r k ∷ behind)) ≡ length front
     unfolding front
-    at_place = ap (place_of n) (sym in_three) ∙ sym is-place ∙ sym (length-series (packetAt r) 0 k)
+    at_place = ap (place_of n) (sym in_three) ∙ sym is-place ∙ sym (length_series (packet_at r) 0 k)
 
-    left : without n (senderAt r).packets ≡ front ++ behind
-    left = ap (without n) in_three ∙ without_at n (packetAt r k) behind front at_place
+    left : without n (sender_at r).packets ≡ front ++ behind
+    left = ap (without n) in_three ∙ without_at n (packet_at r k) behind front at_place
 
-    old-resends : resendsOf (senderAt r).packets n ≡ (packetAt r k).resends
-    old-resends = ap (λ (l : List Packet). resendsOf l n) in_three ∙ resends-at n (packetAt r k) behind front at_place
+    old_resends : resends_of (sender_at r).packets n ≡ (packet_at r k).resends
+    old_resends = ap (λ (l : List Packet). resends_of l n) in_three ∙ resends_at n (packet_at r k) behind front at_place
 
-    length-left : length (without n (senderAt r).packets) ≡ count - 1
+    length_left : length (without n (sender_at r).packets) ≡ count - 1
     unfolding front behind
-    length-left =
+    length_left =
         ap length left
         ∙ length-append front behind
-        ∙ omega (arith, length-series (packetAt r) 0 k, length-series (packetAt r) (k + 1) (count - k - 1))
+        ∙ omega (arith, length_series (packet_at r) 0 k, length_series (packet_at r) (k + 1) (count - k - 1))
 
-    down : (x : List ℕ) → x ≡ splice r (packetsAt + k * packetSize) (part r (packetsAt + (k + 1) * packetSize) ((count - k - 1) * packetSize)) → x ≡ splice r packetsAt (packetsBytes (without n (senderAt r).packets))
+    down : (x : List ℕ) → x ≡ splice r (packets_at + k * packet_size) (part r (packets_at + (k + 1) * packet_size) ((count - k - 1) * packet_size)) → x ≡ splice r packets_at (packets_bytes (without n (sender_at r).packets))
     unfolding front behind
     down x e =
-        let most : outstandingCount r ≤ mostOutstanding = count_most r in
-        let v : List ℕ = part r packetsAt (k * packetSize) in
-        let w : List ℕ = part r (packetsAt + (k + 1) * packetSize) ((count - k - 1) * packetSize) in
-        let lv : length v ≡ k * packetSize = length_part r packetsAt (k * packetSize) (omega arith) in
-        let lw : length w ≡ (count - k - 1) * packetSize = length_part r (packetsAt + (k + 1) * packetSize) ((count - k - 1) * packetSize) (omega arith) in
-        let stays : r ≡ splice r packetsAt v = sym (splice-part r packetsAt (k * packetSize) (omega arith)) in
-        (puts r packetsAt (k * packetSize) ((count - k - 1) * packetSize) (packetsAt + k * packetSize) v w lv lw refl (omega arith) stays e).0
-        ∙ ap (splice r packetsAt)
+        let most : outstanding_count r ≤ most_outstanding = count_most r in
+        let v : List ℕ = part r packets_at (k * packet_size) in
+        let w : List ℕ = part r (packets_at + (k + 1) * packet_size) ((count - k - 1) * packet_size) in
+        let lv : length v ≡ k * packet_size = length_part r packets_at (k * packet_size) (omega arith) in
+        let lw : length w ≡ (count - k - 1) * packet_size = length_part r (packets_at + (k + 1) * packet_size) ((count - k - 1) * packet_size) (omega arith) in
+        let stays : r ≡ splice r packets_at v = sym (splice_part r packets_at (k * packet_size) (omega arith)) in
+        (puts r packets_at (k * packet_size) ((count - k - 1) * packet_size) (packets_at + k * packet_size) v w lv lw refl (omega arith) stays e).0
+        ∙ ap (splice r packets_at)
         (sym
-        (ap packetsBytes left
-        ∙ packets-append front behind
-        ∙ ap₂ (λ (a b : List ℕ). a ++ b) (packets-again r 0 k bytes (omega arith)) (packets-again r (k + 1) (count - k - 1) bytes (omega arith))))
+        (ap packets_bytes left
+        ∙ packets_append front behind
+        ∙ ap₂ (λ (a b : List ℕ). a ++ b) (packets_again r 0 k bytes (omega arith)) (packets_again r (k + 1) (count - k - 1) bytes (omega arith))))
 
-    pub resent : (resends more : ℕ) (x y z : List ℕ) → resends ≡ (packetAt r k).resends → littleBytes 4 more ≡ littleBytes 4 (resends + 1)
-        → x ≡ splice r (packetsAt + k * packetSize) (part r (packetsAt + (k + 1) * packetSize) ((count - k - 1) * packetSize))
-        → y ≡ splice x (packetsAt + (count - 1) * packetSize) (packetBytes (nextPacket highest second more)) → z ≡ splice y 0 (littleBytes 4 (highest + 1) ++ littleBytes 4 count)
-        → z ≡ splice r 0 (senderBytes (taken (senderAt r) (resend n second)))
-    unfolding taken packetBytes senderAt
+    pub resent : (resends more : ℕ) (x y z : List ℕ) → resends ≡ (packet_at r k).resends → little_bytes 4 more ≡ little_bytes 4 (resends + 1)
+        → x ≡ splice r (packets_at + k * packet_size) (part r (packets_at + (k + 1) * packet_size) ((count - k - 1) * packet_size))
+        → y ≡ splice x (packets_at + (count - 1) * packet_size) (packet_bytes (next_packet highest second more)) → z ≡ splice y 0 (little_bytes 4 (highest + 1) ++ little_bytes 4 count)
+        → z ≡ splice r 0 (sender_bytes (taken (sender_at r) (resend n second)))
+    unfolding taken packet_bytes sender_at
     resent resends more x y z er em ex ey ez =
-        let most : outstandingCount r ≤ mostOutstanding = count_most r in
-        let ps : List Packet = (senderAt r).packets in
-        let again : littleBytes 4 more ≡ littleBytes 4 (resendsOf ps n + 1) = em ∙ ap (λ (m : ℕ). littleBytes 4 (m + 1)) (er ∙ sym old-resends) in
-        let put : y ≡ splice x (packetsAt + (count - 1) * packetSize) (packetBytes (nextPacket highest second (resendsOf ps n + 1))) =
-        ey ∙ ap (λ (l : List ℕ). splice x (packetsAt + (count - 1) * packetSize) (littleBytes 4 (highest + 1) ++ (l ++ littleBytes 8 second))) again
+        let most : outstanding_count r ≤ most_outstanding = count_most r in
+        let ps : List Packet = (sender_at r).packets in
+        let again : little_bytes 4 more ≡ little_bytes 4 (resends_of ps n + 1) = em ∙ ap (λ (m : ℕ). little_bytes 4 (m + 1)) (er ∙ sym old_resends) in
+        let put : y ≡ splice x (packets_at + (count - 1) * packet_size) (packet_bytes (next_packet highest second (resends_of ps n + 1))) =
+        ey ∙ ap (λ (l : List ℕ). splice x (packets_at + (count - 1) * packet_size) (little_bytes 4 (highest + 1) ++ (l ++ little_bytes 8 second))) again
         in
-        last-put r (without n ps) (nextPacket highest second (resendsOf ps n + 1)) (highest + 1) (count - 1) count (down x ex) length-left (omega arith) (omega arith) put ez
-        ∙ ap (λ (h : ℕ). splice r 0 (senderBytes (record { highest = h + 1; packets = without n ps ++ (nextPacket h second (resendsOf ps n + 1) ∷ []) }))) is-highest
+        last_put r (without n ps) (next_packet highest second (resends_of ps n + 1)) (highest + 1) (count - 1) count (down x ex) length_left (omega arith) (omega arith) put ez
+        ∙ ap (λ (h : ℕ). splice r 0 (sender_bytes (record { highest = h + 1; packets = without n ps ++ (next_packet h second (resends_of ps n + 1) ∷ []) }))) is-highest

@@ -9,22 +9,22 @@ use lib.ListN.{length}
 use borrow.Author.Tests.{lt-ltb, le-ltb, ltb-true, ltb-false, eq-eqb, ne_eqb}
 use Rattle.wire.specs.Series.{series}
 use Rattle.acks.specs.History.{among}
-use Rattle.sender.specs.Sender.{Packet, numbersOf, without, place_of, resendsOf}
+use Rattle.sender.specs.Sender.{Packet, numbers_of, without, place_of, resends_of}
 
 -- it is there where its place is one of the list's
-less-suc : (a b : ℕ) → ltb a b ≡ ltb (suc a) (suc b)
-less-suc a b = go (ltb a b) refl
+less_suc : (a b : ℕ) → ltb a b ≡ ltb (suc a) (suc b)
+less_suc a b = go (ltb a b) refl
   where
     go : (t : Bool) → ltb a b ≡ t → t ≡ ltb (suc a) (suc b)
     go true e = let h : a < b = ltb-true a b e in sym (lt-ltb (suc a) (suc b) (omega arith))
     go false e = let h : b ≤ a = ltb-false a b e in sym (le-ltb (suc a) (suc b) (omega arith))
 
-pub among-place : (n : ℕ) (ps : List Packet) → among (numbersOf ps) n ≡ ltb (place_of n ps) (length ps)
-unfolding among numbersOf place_of
-among-place n [] = refl
-among-place n (p ∷ ps) = go (eqb n p.number) (among-place n ps ∙ less-suc (place_of n ps) (length ps))
+pub among_place : (n : ℕ) (ps : List Packet) → among (numbers_of ps) n ≡ ltb (place_of n ps) (length ps)
+unfolding among numbers_of place_of
+among_place n [] = refl
+among_place n (p ∷ ps) = go (eqb n p.number) (among_place n ps ∙ less_suc (place_of n ps) (length ps))
   where
-    go : (b : Bool) → among (numbersOf ps) n ≡ ltb (suc (place_of n ps)) (suc (length ps)) → (b || among (numbersOf ps) n) ≡ ltb (cond b 0 (suc (place_of n ps))) (suc (length ps))
+    go : (b : Bool) → among (numbers_of ps) n ≡ ltb (suc (place_of n ps)) (suc (length ps)) → (b || among (numbers_of ps) n) ≡ ltb (cond b 0 (suc (place_of n ps))) (suc (length ps))
     go true e = sym (lt-ltb 0 (suc (length ps)) (omega arith))
     go false e = e
 
@@ -35,8 +35,8 @@ module _ (n count : ℕ) (f : ℕ → Packet) where
   abbrev pub searched : ℕ → Type 0
   searched k = place_of n (series f 0 count) ≡ k + place_of n (series f k (count - k))
 
-  pub search-start : searched 0
-  search-start =
+  pub search_start : searched 0
+  search_start =
       let e : count ≡ count - 0 = omega arith in
       let z : place_of n (series f 0 (count - 0)) ≡ 0 + place_of n (series f 0 (count - 0)) = omega arith in
       ap (λ (m : ℕ). place_of n (series f 0 m)) e ∙ z
@@ -46,21 +46,21 @@ module _ (n count : ℕ) (f : ℕ → Packet) where
   unfolding place_of
   looked k h = let e : count - k ≡ suc (count - (k + 1)) = omega arith in ap (λ (m : ℕ). place_of n (series f k m)) e
 
-  pub search-found : (k x : ℕ) → searched k → k < count → x ≡ (f k).number → x ≡ n → k ≡ place_of n (series f 0 count)
-  search-found k x s h e q =
+  pub search_found : (k x : ℕ) → searched k → k < count → x ≡ (f k).number → x ≡ n → k ≡ place_of n (series f 0 count)
+  search_found k x s h e q =
       let z : place_of n (series f k (count - k)) ≡ 0 = looked k h ∙ ap (λ (b : Bool). cond b 0 (suc (place_of n (series f (k + 1) (count - (k + 1)))))) (eq-eqb n (f k).number (sym q ∙ e)) in
       omega arith
 
-  pub search-turn : (k x : ℕ) → searched k → k < count → x ≡ (f k).number → (x ≡ n → ⊥) → searched (k + 1)
-  search-turn k x s h e q =
+  pub search_turn : (k x : ℕ) → searched k → k < count → x ≡ (f k).number → (x ≡ n → ⊥) → searched (k + 1)
+  search_turn k x s h e q =
       let z : place_of n (series f k (count - k)) ≡ suc (place_of n (series f (k + 1) (count - (k + 1)))) =
       looked k h ∙ ap (λ (b : Bool). cond b 0 (suc (place_of n (series f (k + 1) (count - (k + 1)))))) (ne_eqb n (f k).number (λ w. q (e ∙ sym w)))
       in
       omega arith
 
-  pub search-end : (k : ℕ) → searched k → k ≡ count → count ≡ place_of n (series f 0 count)
+  pub search_end : (k : ℕ) → searched k → k ≡ count → count ≡ place_of n (series f 0 count)
   unfolding place_of
-  search-end k s e =
+  search_end k s e =
       let m : count - k ≡ 0 = omega arith in
       let z : place_of n (series f k (count - k)) ≡ 0 = ap (λ (j : ℕ). place_of n (series f k j)) m in
       omega arith
@@ -81,15 +81,15 @@ module _ (n : ℕ) (p : Packet) (b : List Packet) where
       go true rest e = absurd (omega arith)
       go false rest e = ap (λ (z : List Packet). q ∷ z) (rest (omega arith))
 
-  pub resends-at : (a : List Packet) → place_of n (a ++ (p ∷ b)) ≡ length a → resendsOf (a ++ (p ∷ b)) n ≡ p.resends
-  unfolding place_of resendsOf
-  resends-at [] = go (eqb n p.number)
+  pub resends_at : (a : List Packet) → place_of n (a ++ (p ∷ b)) ≡ length a → resends_of (a ++ (p ∷ b)) n ≡ p.resends
+  unfolding place_of resends_of
+  resends_at [] = go (eqb n p.number)
     where
-      go : (t : Bool) → cond t 0 (suc (place_of n b)) ≡ 0 → cond t p.resends (resendsOf b n) ≡ p.resends
+      go : (t : Bool) → cond t 0 (suc (place_of n b)) ≡ 0 → cond t p.resends (resends_of b n) ≡ p.resends
       go true e = refl
       go false e = absurd (omega arith)
-  resends-at (q ∷ a) = go (eqb n q.number) (resends-at a)
+  resends_at (q ∷ a) = go (eqb n q.number) (resends_at a)
     where
-      go : (t : Bool) → (place_of n (a ++ (p ∷ b)) ≡ length a → resendsOf (a ++ (p ∷ b)) n ≡ p.resends) → cond t 0 (suc (place_of n (a ++ (p ∷ b)))) ≡ suc (length a) → cond t q.resends (resendsOf (a ++ (p ∷ b)) n) ≡ p.resends
+      go : (t : Bool) → (place_of n (a ++ (p ∷ b)) ≡ length a → resends_of (a ++ (p ∷ b)) n ≡ p.resends) → cond t 0 (suc (place_of n (a ++ (p ∷ b)))) ≡ suc (length a) → cond t q.resends (resends_of (a ++ (p ∷ b)) n) ≡ p.resends
       go true rest e = absurd (omega arith)
       go false rest e = rest (omega arith)

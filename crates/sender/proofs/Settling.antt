@@ -6,196 +6,196 @@ use Prim.Native.Nat.{ℕ, ◌+◌, ◌-◌, ◌*◌, ◌≤◌, ◌<◌}
 use native.Mathlib.Omega.{arith}
 use lib.ListN.{length, set, length-append}
 use Rattle.wire.specs.Parts.{part, splice}
-use Rattle.wire.specs.Numbers.{Bytes, littleAt, littleBytes}
+use Rattle.wire.specs.Numbers.{Bytes, little_at, little_bytes}
 use Rattle.wire.specs.Series.{series}
-use Rattle.wire.proofs.Parts.{length-splice, part-after, splice-then}
-use Rattle.wire.proofs.Slices.{splice-none, splice-more}
-use Rattle.wire.proofs.Series.{series-more}
+use Rattle.wire.proofs.Parts.{length_splice, part_after, splice_then}
+use Rattle.wire.proofs.Slices.{splice_none, splice_more}
+use Rattle.wire.proofs.Series.{series_more}
 use Rattle.acks.specs.Window.{keep}
 use Rattle.acks.specs.History.{among}
-use Rattle.acks.specs.Expanding.{ackNumbers}
-use Rattle.sender.specs.Sizes.{mostOutstanding, packetsAt, packetSize, senderSize}
-use Rattle.sender.specs.Sender.{Packet, numbersOf, those, ack, taken, settledBy}
-use Rattle.sender.specs.Recorded.{outstandingCount, packetAt, packetBytes, packetsBytes, senderAt, senderBytes}
+use Rattle.acks.specs.Expanding.{ack_numbers}
+use Rattle.sender.specs.Sizes.{most_outstanding, packets_at, packet_size, sender_size}
+use Rattle.sender.specs.Sender.{Packet, numbers_of, those, ack, taken, settled_by}
+use Rattle.sender.specs.Recorded.{outstanding_count, packet_at, packet_bytes, packets_bytes, sender_at, sender_bytes}
 use Rattle.sender.specs.Settling.{Passed, Walked}
-use Rattle.sender.proofs.Lists.{numbers-append, numbers-those, those-append, those-one}
-use Rattle.sender.proofs.Packets.{length-packet, length-packets, packets-append, packet-again, packet-same, sender-bytes}
+use Rattle.sender.proofs.Lists.{numbers_append, numbers_those, those_append, those_one}
+use Rattle.sender.proofs.Packets.{length_packet, length_packets, packets_append, packet_again, packet_same, sender_bytes_lem}
 
 -- ---- where the walk stands
 -- of the first k packets, those that a test does not take
 unfoldable pub left : (ℕ → Bool) → List ℕ → ℕ → List Packet
-left test r k = those (λ n. not (test n)) (series (packetAt r) 0 k)
+left test r k = those (λ n. not (test n)) (series (packet_at r) 0 k)
 
 -- and the numbers of those that it does
 unfoldable pub gone : (ℕ → Bool) → List ℕ → ℕ → List ℕ
-gone test r k = keep test (numbersOf (series (packetAt r) 0 k))
+gone test r k = keep test (numbers_of (series (packet_at r) 0 k))
 
 -- The first k packets are passed: those that are kept stand in front, the numbers of the others are told.
 pub record Settling (test : ℕ → Bool) (rec₀ settled₀ : List ℕ) (k : ℕ) (rec settled : List ℕ) (kept : ℕ) : Type 0 where
-  pub keeps : rec ≡ splice rec₀ packetsAt (packetsBytes (left test rec₀ k))
+  pub keeps : rec ≡ splice rec₀ packets_at (packets_bytes (left test rec₀ k))
   pub counts : kept ≡ length (left test rec₀ k)
   pub tells : settled ≡ splice settled₀ 0 (gone test rec₀ k)
-  pub adds-up : kept + length (gone test rec₀ k) ≡ k
+  pub adds_up : kept + length (gone test rec₀ k) ≡ k
 
-those-none : (t : ℕ → Bool) (p : Packet) → t p.number ≡ false → those t (p ∷ []) ≡ []
+those_none : (t : ℕ → Bool) (p : Packet) → t p.number ≡ false → those t (p ∷ []) ≡ []
 unfolding those
-those-none t p h = rw h
+those_none t p h = rw h
 
 module _ (test : ℕ → Bool) (rec₀ : List ℕ) (k : ℕ) where
-  left-more : left test rec₀ (k + 1) ≡ left test rec₀ k ++ those (λ n. not (test n)) (packetAt rec₀ k ∷ [])
+  left_more : left test rec₀ (k + 1) ≡ left test rec₀ k ++ those (λ n. not (test n)) (packet_at rec₀ k ∷ [])
   unfolding left
-  left-more =
-      ap (those (λ n. not (test n))) (series-more (packetAt rec₀) k)
-      ∙ those-append (λ n. not (test n)) (series (packetAt rec₀) 0 k) (packetAt rec₀ k ∷ [])
+  left_more =
+      ap (those (λ n. not (test n))) (series_more (packet_at rec₀) k)
+      ∙ those_append (λ n. not (test n)) (series (packet_at rec₀) 0 k) (packet_at rec₀ k ∷ [])
 
-  gone-more : gone test rec₀ (k + 1) ≡ gone test rec₀ k ++ numbersOf (those test (packetAt rec₀ k ∷ []))
+  gone_more : gone test rec₀ (k + 1) ≡ gone test rec₀ k ++ numbers_of (those test (packet_at rec₀ k ∷ []))
   unfolding gone
-  gone-more =
-      ap (λ (ps : List Packet). keep test (numbersOf ps)) (series-more (packetAt rec₀) k)
-      ∙ sym (numbers-those test (series (packetAt rec₀) 0 k ++ (packetAt rec₀ k ∷ [])))
-      ∙ ap numbersOf (those-append test (series (packetAt rec₀) 0 k) (packetAt rec₀ k ∷ []))
-      ∙ numbers-append (those test (series (packetAt rec₀) 0 k)) (those test (packetAt rec₀ k ∷ []))
-      ∙ ap (λ (l : List ℕ). l ++ numbersOf (those test (packetAt rec₀ k ∷ []))) (numbers-those test (series (packetAt rec₀) 0 k))
+  gone_more =
+      ap (λ (ps : List Packet). keep test (numbers_of ps)) (series_more (packet_at rec₀) k)
+      ∙ sym (numbers_those test (series (packet_at rec₀) 0 k ++ (packet_at rec₀ k ∷ [])))
+      ∙ ap numbers_of (those_append test (series (packet_at rec₀) 0 k) (packet_at rec₀ k ∷ []))
+      ∙ numbers_append (those test (series (packet_at rec₀) 0 k)) (those test (packet_at rec₀ k ∷ []))
+      ∙ ap (λ (l : List ℕ). l ++ numbers_of (those test (packet_at rec₀ k ∷ []))) (numbers_those test (series (packet_at rec₀) 0 k))
 
   -- the k-th packet is named
-  module _ (e : test (packetAt rec₀ k).number ≡ true) where
-    left-named : left test rec₀ (k + 1) ≡ left test rec₀ k
-    left-named =
-        left-more
-        ∙ ap (λ (l : List Packet). left test rec₀ k ++ l) (those-none (λ n. not (test n)) (packetAt rec₀ k) (ap not e))
+  module _ (e : test (packet_at rec₀ k).number ≡ true) where
+    left_named : left test rec₀ (k + 1) ≡ left test rec₀ k
+    left_named =
+        left_more
+        ∙ ap (λ (l : List Packet). left test rec₀ k ++ l) (those_none (λ n. not (test n)) (packet_at rec₀ k) (ap not e))
         ∙ append-nil (left test rec₀ k)
 
-    gone-named : gone test rec₀ (k + 1) ≡ gone test rec₀ k ++ ((packetAt rec₀ k).number ∷ [])
-    unfolding numbersOf
-    gone-named = gone-more ∙ ap (λ (l : List Packet). gone test rec₀ k ++ numbersOf l) (those-one test (packetAt rec₀ k) e)
+    gone_named : gone test rec₀ (k + 1) ≡ gone test rec₀ k ++ ((packet_at rec₀ k).number ∷ [])
+    unfolding numbers_of
+    gone_named = gone_more ∙ ap (λ (l : List Packet). gone test rec₀ k ++ numbers_of l) (those_one test (packet_at rec₀ k) e)
 
   -- or it is not
-  module _ (e : test (packetAt rec₀ k).number ≡ false) where
-    left-kept : left test rec₀ (k + 1) ≡ left test rec₀ k ++ (packetAt rec₀ k ∷ [])
-    left-kept = left-more ∙ ap (λ (l : List Packet). left test rec₀ k ++ l) (those-one (λ n. not (test n)) (packetAt rec₀ k) (ap not e))
+  module _ (e : test (packet_at rec₀ k).number ≡ false) where
+    left_kept : left test rec₀ (k + 1) ≡ left test rec₀ k ++ (packet_at rec₀ k ∷ [])
+    left_kept = left_more ∙ ap (λ (l : List Packet). left test rec₀ k ++ l) (those_one (λ n. not (test n)) (packet_at rec₀ k) (ap not e))
 
-    gone-kept : gone test rec₀ (k + 1) ≡ gone test rec₀ k
-    unfolding numbersOf
-    gone-kept =
-        gone-more
-        ∙ ap (λ (l : List Packet). gone test rec₀ k ++ numbersOf l) (those-none test (packetAt rec₀ k) e)
+    gone_kept : gone test rec₀ (k + 1) ≡ gone test rec₀ k
+    unfolding numbers_of
+    gone_kept =
+        gone_more
+        ∙ ap (λ (l : List Packet). gone test rec₀ k ++ numbers_of l) (those_none test (packet_at rec₀ k) e)
         ∙ append-nil (gone test rec₀ k)
 
 -- ---- its start
-pub settling-start : (test : ℕ → Bool) (rec₀ settled₀ : List ℕ) → Settling test rec₀ settled₀ 0 rec₀ settled₀ 0
-unfolding left gone those numbersOf keep packetsBytes
-settling-start test rec₀ settled₀ =
+pub settling_start : (test : ℕ → Bool) (rec₀ settled₀ : List ℕ) → Settling test rec₀ settled₀ 0 rec₀ settled₀ 0
+unfolding left gone those numbers_of keep packets_bytes
+settling_start test rec₀ settled₀ =
     record {
-      keeps = sym (splice-none rec₀ packetsAt);
+      keeps = sym (splice_none rec₀ packets_at);
       counts = refl;
-      tells = sym (splice-none settled₀ 0);
-      adds-up = refl;
+      tells = sym (splice_none settled₀ 0);
+      adds_up = refl;
     }
 
 -- ---- a turn
-module _ {test : ℕ → Bool} {rec₀ settled₀ : List ℕ} {k : ℕ} {rec settled : List ℕ} {kept : ℕ} (s : Settling test rec₀ settled₀ k rec settled kept) (long : senderSize ≤ length rec₀) (few : k ≤ mostOutstanding) where
-  pub kept-below : kept ≤ k
-  kept-below = omega (arith, s.adds-up)
+module _ {test : ℕ → Bool} {rec₀ settled₀ : List ℕ} {k : ℕ} {rec settled : List ℕ} {kept : ℕ} (s : Settling test rec₀ settled₀ k rec settled kept) (long : sender_size ≤ length rec₀) (few : k ≤ most_outstanding) where
+  pub kept_below : kept ≤ k
+  kept_below = omega (arith, s.adds_up)
 
-  length-kept : length (packetsBytes (left test rec₀ k)) ≡ kept * packetSize
-  length-kept = length-packets (left test rec₀ k) ∙ ap (λ (n : ℕ). n * packetSize) (sym s.counts)
+  length_kept : length (packets_bytes (left test rec₀ k)) ≡ kept * packet_size
+  length_kept = length_packets (left test rec₀ k) ∙ ap (λ (n : ℕ). n * packet_size) (sym s.counts)
 
   pub same_length : length rec ≡ length rec₀
-  same_length = ap length s.keeps ∙ length-splice rec₀ packetsAt (packetsBytes (left test rec₀ k)) (omega (arith, length-kept, kept-below))
+  same_length = ap length s.keeps ∙ length_splice rec₀ packets_at (packets_bytes (left test rec₀ k)) (omega (arith, length_kept, kept_below))
 
-  pub same-room : mostOutstanding ≤ length settled₀ → length settled ≡ length settled₀
-  same-room room = ap length s.tells ∙ length-splice settled₀ 0 (gone test rec₀ k) (omega (arith, s.adds-up))
+  pub same_room : most_outstanding ≤ length settled₀ → length settled ≡ length settled₀
+  same_room room = ap length s.tells ∙ length_splice settled₀ 0 (gone test rec₀ k) (omega (arith, s.adds_up))
 
   -- the packets not passed yet are as they were
-  packet-there : packetAt rec k ≡ packetAt rec₀ k
-  packet-there =
-      ap (λ (r : List ℕ). packetAt r k) s.keeps
-      ∙ packet-same rec₀ packetsAt (packetsBytes (left test rec₀ k)) k (omega (arith, length-kept, kept-below)) (omega (arith, length-kept, kept-below))
+  packet_there : packet_at rec k ≡ packet_at rec₀ k
+  packet_there =
+      ap (λ (r : List ℕ). packet_at r k) s.keeps
+      ∙ packet_same rec₀ packets_at (packets_bytes (left test rec₀ k)) k (omega (arith, length_kept, kept_below)) (omega (arith, length_kept, kept_below))
 
-module _ {test : ℕ → Bool} {rec₀ settled₀ : List ℕ} {k : ℕ} {rec settled : List ℕ} {kept : ℕ} (s : Settling test rec₀ settled₀ k rec settled kept) (long : senderSize ≤ length rec₀) (room : mostOutstanding ≤ length settled₀) (few : k < mostOutstanding) (bytes : Bytes rec₀) where
-  turn-named : test (packetAt rec₀ k).number ≡ true → Settling test rec₀ settled₀ (k + 1) rec (set settled (k - kept) (packetAt rec₀ k).number) kept
-  turn-named e =
-      let at : k - kept ≡ 0 + length (gone test rec₀ k) = omega (arith, s.adds-up) in
-      let more : length (gone test rec₀ (k + 1)) ≡ length (gone test rec₀ k) + 1 = ap length (gone-named test rec₀ k e) ∙ length-append (gone test rec₀ k) ((packetAt rec₀ k).number ∷ []) in
+module _ {test : ℕ → Bool} {rec₀ settled₀ : List ℕ} {k : ℕ} {rec settled : List ℕ} {kept : ℕ} (s : Settling test rec₀ settled₀ k rec settled kept) (long : sender_size ≤ length rec₀) (room : most_outstanding ≤ length settled₀) (few : k < most_outstanding) (bytes : Bytes rec₀) where
+  turn_named : test (packet_at rec₀ k).number ≡ true → Settling test rec₀ settled₀ (k + 1) rec (set settled (k - kept) (packet_at rec₀ k).number) kept
+  turn_named e =
+      let at : k - kept ≡ 0 + length (gone test rec₀ k) = omega (arith, s.adds_up) in
+      let more : length (gone test rec₀ (k + 1)) ≡ length (gone test rec₀ k) + 1 = ap length (gone_named test rec₀ k e) ∙ length-append (gone test rec₀ k) ((packet_at rec₀ k).number ∷ []) in
       record {
-        keeps = s.keeps ∙ ap (λ (ps : List Packet). splice rec₀ packetsAt (packetsBytes ps)) (sym (left-named test rec₀ k e));
-        counts = s.counts ∙ ap length (sym (left-named test rec₀ k e));
+        keeps = s.keeps ∙ ap (λ (ps : List Packet). splice rec₀ packets_at (packets_bytes ps)) (sym (left_named test rec₀ k e));
+        counts = s.counts ∙ ap length (sym (left_named test rec₀ k e));
         tells =
-            ap (λ (l : List ℕ). set l (k - kept) (packetAt rec₀ k).number) s.tells
-            ∙ ap (λ (i : ℕ). set (splice settled₀ 0 (gone test rec₀ k)) i (packetAt rec₀ k).number) at
-            ∙ splice-more settled₀ 0 (gone test rec₀ k) (packetAt rec₀ k).number (omega (arith, s.adds-up))
-            ∙ ap (splice settled₀ 0) (sym (gone-named test rec₀ k e));
-        adds-up = omega (arith, s.adds-up);
+            ap (λ (l : List ℕ). set l (k - kept) (packet_at rec₀ k).number) s.tells
+            ∙ ap (λ (i : ℕ). set (splice settled₀ 0 (gone test rec₀ k)) i (packet_at rec₀ k).number) at
+            ∙ splice_more settled₀ 0 (gone test rec₀ k) (packet_at rec₀ k).number (omega (arith, s.adds_up))
+            ∙ ap (splice settled₀ 0) (sym (gone_named test rec₀ k e));
+        adds_up = omega (arith, s.adds_up);
       }
 
-  turn-kept : test (packetAt rec₀ k).number ≡ false
-      → Settling test rec₀ settled₀ (k + 1) (splice rec (packetsAt + kept * packetSize) (part rec (packetsAt + k * packetSize) packetSize)) settled (kept + 1)
-  unfolding packetsBytes
-  turn-kept e =
-      let v : List ℕ = packetsBytes (left test rec₀ k) in
-      let w : List ℕ = part rec (packetsAt + k * packetSize) packetSize in
-      let below : kept ≤ k = omega (arith, s.adds-up) in
-      let lv : length v ≡ kept * packetSize = length-kept s long (omega arith) in
-      let stood : w ≡ packetBytes (packetAt rec₀ k) =
-      ap (λ (r : List ℕ). part r (packetsAt + k * packetSize) packetSize) s.keeps
-      ∙ part-after rec₀ packetsAt v (omega arith) (packetsAt + k * packetSize) packetSize (omega arith)
-      ∙ sym (packet-again rec₀ k bytes (omega arith))
+  turn_kept : test (packet_at rec₀ k).number ≡ false
+      → Settling test rec₀ settled₀ (k + 1) (splice rec (packets_at + kept * packet_size) (part rec (packets_at + k * packet_size) packet_size)) settled (kept + 1)
+  unfolding packets_bytes
+  turn_kept e =
+      let v : List ℕ = packets_bytes (left test rec₀ k) in
+      let w : List ℕ = part rec (packets_at + k * packet_size) packet_size in
+      let below : kept ≤ k = omega (arith, s.adds_up) in
+      let lv : length v ≡ kept * packet_size = length_kept s long (omega arith) in
+      let stood : w ≡ packet_bytes (packet_at rec₀ k) =
+      ap (λ (r : List ℕ). part r (packets_at + k * packet_size) packet_size) s.keeps
+      ∙ part_after rec₀ packets_at v (omega arith) (packets_at + k * packet_size) packet_size (omega arith)
+      ∙ sym (packet_again rec₀ k bytes (omega arith))
       in
-      let lw : length w ≡ packetSize = ap length stood ∙ length-packet (packetAt rec₀ k) in
-      let at : packetsAt + kept * packetSize ≡ packetsAt + length v = omega arith in
-      let joined : packetsBytes (left test rec₀ (k + 1)) ≡ v ++ w =
-      ap packetsBytes (left-kept test rec₀ k e)
-      ∙ packets-append (left test rec₀ k) (packetAt rec₀ k ∷ [])
-      ∙ ap (λ (l : List ℕ). v ++ l) (append-nil (packetBytes (packetAt rec₀ k)) ∙ sym stood)
+      let lw : length w ≡ packet_size = ap length stood ∙ length_packet (packet_at rec₀ k) in
+      let at : packets_at + kept * packet_size ≡ packets_at + length v = omega arith in
+      let joined : packets_bytes (left test rec₀ (k + 1)) ≡ v ++ w =
+      ap packets_bytes (left_kept test rec₀ k e)
+      ∙ packets_append (left test rec₀ k) (packet_at rec₀ k ∷ [])
+      ∙ ap (λ (l : List ℕ). v ++ l) (append-nil (packet_bytes (packet_at rec₀ k)) ∙ sym stood)
       in
-      let more : length (left test rec₀ (k + 1)) ≡ length (left test rec₀ k) + 1 = ap length (left-kept test rec₀ k e) ∙ length-append (left test rec₀ k) (packetAt rec₀ k ∷ []) in
+      let more : length (left test rec₀ (k + 1)) ≡ length (left test rec₀ k) + 1 = ap length (left_kept test rec₀ k e) ∙ length-append (left test rec₀ k) (packet_at rec₀ k ∷ []) in
       record {
         keeps =
-            splice-then rec₀ packetsAt v w (omega arith) s.keeps (ap (λ (o : ℕ). splice rec o w) at)
-            ∙ ap (splice rec₀ packetsAt) (sym joined);
+            splice_then rec₀ packets_at v w (omega arith) s.keeps (ap (λ (o : ℕ). splice rec o w) at)
+            ∙ ap (splice rec₀ packets_at) (sym joined);
         counts = omega (arith, s.counts);
-        tells = s.tells ∙ ap (splice settled₀ 0) (sym (gone-kept test rec₀ k e));
-        adds-up = omega (arith, s.adds-up, ap length (gone-kept test rec₀ k e));
+        tells = s.tells ∙ ap (splice settled₀ 0) (sym (gone_kept test rec₀ k e));
+        adds_up = omega (arith, s.adds_up, ap length (gone_kept test rec₀ k e));
       }
 
   -- the k-th packet is passed
-  pub settling-turn : {after told : List ℕ} {next : ℕ} → Passed (test (packetAt rec k).number) k kept next rec after settled told → Settling test rec₀ settled₀ (k + 1) after told next
-  settling-turn {after} {told} {next} p = go (test (packetAt rec₀ k).number) refl
+  pub settling_turn : {after told : List ℕ} {next : ℕ} → Passed (test (packet_at rec k).number) k kept next rec after settled told → Settling test rec₀ settled₀ (k + 1) after told next
+  settling_turn {after} {told} {next} p = go (test (packet_at rec₀ k).number) refl
     where
-      there : packetAt rec k ≡ packetAt rec₀ k
-      there = packet-there s long (omega arith)
+      there : packet_at rec k ≡ packet_at rec₀ k
+      there = packet_there s long (omega arith)
 
-      go : (b : Bool) → test (packetAt rec₀ k).number ≡ b → Settling test rec₀ settled₀ (k + 1) after told next
+      go : (b : Bool) → test (packet_at rec₀ k).number ≡ b → Settling test rec₀ settled₀ (k + 1) after told next
       go true e =
-          let n : test (packetAt rec k).number ≡ true = ap (λ (q : Packet). test q.number) there ∙ e in
+          let n : test (packet_at rec k).number ≡ true = ap (λ (q : Packet). test q.number) there ∙ e in
           let x : next ≡ kept = rw n at p.counts in
           let y : after ≡ rec = rw n at p.moves in
-          let z : told ≡ set settled (k - kept) (packetAt rec k).number = rw n at p.tells in
-          rw (x, y, z, there) (turn-named e)
+          let z : told ≡ set settled (k - kept) (packet_at rec k).number = rw n at p.tells in
+          rw (x, y, z, there) (turn_named e)
       go false e =
-          let n : test (packetAt rec k).number ≡ false = ap (λ (q : Packet). test q.number) there ∙ e in
+          let n : test (packet_at rec k).number ≡ false = ap (λ (q : Packet). test q.number) there ∙ e in
           let x : next ≡ kept + 1 = rw n at p.counts in
-          let y : after ≡ splice rec (packetsAt + kept * packetSize) (part rec (packetsAt + k * packetSize) packetSize) = rw n at p.moves in
+          let y : after ≡ splice rec (packets_at + kept * packet_size) (part rec (packets_at + k * packet_size) packet_size) = rw n at p.moves in
           let z : told ≡ settled = rw n at p.tells in
-          rw (x, y, z) (turn-kept e)
+          rw (x, y, z) (turn_kept e)
 
 -- ---- its end
 module _ (rec₀ settled₀ : List ℕ) (through count : ℕ) (pairs : List ℕ) where
   -- the packets kept are those of the sender after the ack, the numbers told those that it settles
-  pub settling-end : {k kept : ℕ} {rec settled : List ℕ} → Settling (among (ackNumbers through count pairs)) rec₀ settled₀ k rec settled kept → k ≡ outstandingCount rec₀
+  pub settling_end : {k kept : ℕ} {rec settled : List ℕ} → Settling (among (ack_numbers through count pairs)) rec₀ settled₀ k rec settled kept → k ≡ outstanding_count rec₀
       → Walked (ack through count pairs) kept rec₀ rec settled₀ settled
-  unfolding left gone senderAt taken settledBy
-  settling-end {k} {kept} {rec} {settled} s e =
-      let z : Settling (among (ackNumbers through count pairs)) rec₀ settled₀ (outstandingCount rec₀) rec settled kept = rw e at s in
-      record { counts = z.counts; moves = z.keeps; tells = z.tells; adds-up = z.adds-up }
+  unfolding left gone sender_at taken settled_by
+  settling_end {k} {kept} {rec} {settled} s e =
+      let z : Settling (among (ack_numbers through count pairs)) rec₀ settled₀ (outstanding_count rec₀) rec settled kept = rw e at s in
+      record { counts = z.counts; moves = z.keeps; tells = z.tells; adds_up = z.adds_up }
 
-  module _ {kept : ℕ} {after told : List ℕ} (w : Walked (ack through count pairs) kept rec₀ after settled₀ told) (long : senderSize ≤ length rec₀) (few : outstandingCount rec₀ ≤ mostOutstanding) where
-    walked-below : kept ≤ outstandingCount rec₀
-    walked-below = omega (arith, w.adds-up)
+  module _ {kept : ℕ} {after told : List ℕ} (w : Walked (ack through count pairs) kept rec₀ after settled₀ told) (long : sender_size ≤ length rec₀) (few : outstanding_count rec₀ ≤ most_outstanding) where
+    walked_below : kept ≤ outstanding_count rec₀
+    walked_below = omega (arith, w.adds_up)
 
     -- the highest number and the count, put in front of them
-    pub walked-saved : splice after 0 (littleBytes 4 (littleAt 4 rec₀ 0) ++ littleBytes 4 kept) ≡ splice rec₀ 0 (senderBytes (taken (senderAt rec₀) (ack through count pairs)))
-    unfolding taken senderAt
-    walked-saved =
-        ap (λ (r : List ℕ). splice r 0 (littleBytes 4 (littleAt 4 rec₀ 0) ++ littleBytes 4 kept)) w.moves
-        ∙ sender-bytes rec₀ (littleAt 4 rec₀ 0) kept (taken (senderAt rec₀) (ack through count pairs)).packets w.counts (omega (arith, w.counts, walked-below))
+    pub walked_saved : splice after 0 (little_bytes 4 (little_at 4 rec₀ 0) ++ little_bytes 4 kept) ≡ splice rec₀ 0 (sender_bytes (taken (sender_at rec₀) (ack through count pairs)))
+    unfolding taken sender_at
+    walked_saved =
+        ap (λ (r : List ℕ). splice r 0 (little_bytes 4 (little_at 4 rec₀ 0) ++ little_bytes 4 kept)) w.moves
+        ∙ sender_bytes_lem rec₀ (little_at 4 rec₀ 0) kept (taken (sender_at rec₀) (ack through count pairs)).packets w.counts (omega (arith, w.counts, walked_below))

@@ -5,25 +5,25 @@ use Prim.Native.Nat.{ℕ, ◌≤◌, ◌<◌}
 use native.Mathlib.Omega.{arith}
 use lib.ListN.{length}
 use borrow.Author.Tests.{lt-ltb, le-ltb}
-use Rattle.sender.specs.Sizes.{senderSize}
-use Rattle.sender.specs.Recorded.{outstandingCount, packetAt, outstandingThere, packetRow, packetNumbers}
-use Rattle.sender.proofs.Lent.{is-short, is-long}
+use Rattle.sender.specs.Sizes.{sender_size}
+use Rattle.sender.specs.Recorded.{outstanding_count, packet_at, outstanding_there, packet_row, packet_numbers}
+use Rattle.sender.proofs.Lent.{is_short_lem, is_long}
 
 module _ (r : List ℕ) (k : ℕ) (out : List ℕ) where
-  pub none-there : length r < senderSize → (0 ≡ outstandingThere r) × (out ≡ packetNumbers r k out)
-  unfolding outstandingThere packetNumbers
-  none-there h = (rw (is-short r h) refl, rw (is-short r h, le-ltb k 0 (omega arith)) refl)
+  pub none_there : length r < sender_size → (0 ≡ outstanding_there r) × (out ≡ packet_numbers r k out)
+  unfolding outstanding_there packet_numbers
+  none_there h = (rw (is_short_lem r h) refl, rw (is_short_lem r h, le-ltb k 0 (omega arith)) refl)
 
-  module _ (count : ℕ) (is-count : count ≡ outstandingCount r) (long : senderSize ≤ length r) where
-    so-many : count ≡ outstandingThere r
-    unfolding outstandingThere
-    so-many = rw (is-long r long) is-count
+  module _ (count : ℕ) (is-count : count ≡ outstanding_count r) (long : sender_size ≤ length r) where
+    so_many : count ≡ outstanding_there r
+    unfolding outstanding_there
+    so_many = rw (is_long r long) is-count
 
-    pub shown : (number second resends : ℕ) → k < count → number ≡ (packetAt r k).number → second ≡ (packetAt r k).second → resends ≡ (packetAt r k).resends
-        → (count ≡ outstandingThere r) × (number ∷ (second ∷ (resends ∷ [])) ≡ packetNumbers r k out)
-    unfolding packetNumbers packetRow
-    shown number second resends h en es er = (so-many, rw (← so-many, lt-ltb k count h) (cc))
+    pub shown : (number second resends : ℕ) → k < count → number ≡ (packet_at r k).number → second ≡ (packet_at r k).second → resends ≡ (packet_at r k).resends
+        → (count ≡ outstanding_there r) × (number ∷ (second ∷ (resends ∷ [])) ≡ packet_numbers r k out)
+    unfolding packet_numbers packet_row
+    shown number second resends h en es er = (so_many, rw (← so_many, lt-ltb k count h) (cc))
 
-    pub not-shown : count ≤ k → (count ≡ outstandingThere r) × (out ≡ packetNumbers r k out)
-    unfolding packetNumbers
-    not-shown h = (so-many, rw (← so-many, le-ltb k count h) refl)
+    pub not_shown : count ≤ k → (count ≡ outstanding_there r) × (out ≡ packet_numbers r k out)
+    unfolding packet_numbers
+    not_shown h = (so_many, rw (← so_many, le-ltb k count h) refl)

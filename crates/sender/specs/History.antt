@@ -2,50 +2,50 @@
 -- so each of its tails is the history of an earlier moment.
 use Rattle.std.specs.Prelude.{◌≡◌, Bool, true, not, cond, ◌&&◌, List, [], ◌∷◌, ◌++◌, ℕ, ◌+◌, ◌<◌, eqb}
 use Rattle.acks.specs.Window.{keep}
-use Rattle.acks.specs.History.{highestOf, among}
-use Rattle.acks.specs.Expanding.{ackNumbers}
-use Rattle.sender.specs.Sender.{Packet, Sender, newSender, Call, send, resend, ack, numbersOf, those, resendsOf, nextPacket, callAnswer, called}
+use Rattle.acks.specs.History.{highest_of, among}
+use Rattle.acks.specs.Expanding.{ack_numbers}
+use Rattle.sender.specs.Sender.{Packet, Sender, new_sender, Call, send, resend, ack, numbers_of, those, resends_of, next_packet, call_answer, called}
 
 -- The books of a history: the packets given out, the first first, and the numbers settled and given up.
 pub record Books : Type 0 where
-  pub givenOut : List Packet
+  pub given_out : List Packet
   pub settled : List ℕ
-  pub givenUp : List ℕ
+  pub given_up : List ℕ
 
 -- at the start: 0 counts as given out and settled
 abbrev pub opening : Books
-opening = record { givenOut = record { number = 0; second = 0; resends = 0 } ∷ []; settled = 0 ∷ []; givenUp = [] }
+opening = record { given_out = record { number = 0; second = 0; resends = 0 } ∷ []; settled = 0 ∷ []; given_up = [] }
 
 -- neither settled nor given up
 unfoldable pub unclosed : Books → ℕ → Bool
-unclosed b n = not (among b.settled n) && not (among b.givenUp n)
+unclosed b n = not (among b.settled n) && not (among b.given_up n)
 
 -- outstanding: given out, and neither settled nor given up
-unfoldable pub outstandingIn : Books → List Packet
-outstandingIn b = those (unclosed b) b.givenOut
+unfoldable pub outstanding_in : Books → List Packet
+outstanding_in b = those (unclosed b) b.given_out
 
 -- the highest number given out
-unfoldable pub highestIn : Books → ℕ
-highestIn b = highestOf (numbersOf b.givenOut)
+unfoldable pub highest_in : Books → ℕ
+highest_in b = highest_of (numbers_of b.given_out)
 
 -- what a call answers by the books
 unfoldable pub answer_in : Books → Call → ℕ
-answer_in b c = callAnswer (highestIn b) (among (numbersOf b.givenOut)) (numbersOf (outstandingIn b)) c
+answer_in b c = call_answer (highest_in b) (among (numbers_of b.given_out)) (numbers_of (outstanding_in b)) c
 
 -- a call that was answered 0: a send gives out the next number; a resend gives up the old one and gives out the next; an ack settles those outstanding that it names
 unfoldable pub booked : Books → Call → Books
-booked b (send second) = record { givenOut = b.givenOut ++ (nextPacket (highestIn b) second 0 ∷ []); settled = b.settled; givenUp = b.givenUp }
+booked b (send second) = record { given_out = b.given_out ++ (next_packet (highest_in b) second 0 ∷ []); settled = b.settled; given_up = b.given_up }
 booked b (resend n second) =
     record {
-      givenOut = b.givenOut ++ (nextPacket (highestIn b) second (resendsOf b.givenOut n + 1) ∷ []);
+      given_out = b.given_out ++ (next_packet (highest_in b) second (resends_of b.given_out n + 1) ∷ []);
       settled = b.settled;
-      givenUp = n ∷ b.givenUp;
+      given_up = n ∷ b.given_up;
     }
 booked b (ack through count pairs) =
     record {
-      givenOut = b.givenOut;
-      settled = keep (among (ackNumbers through count pairs)) (numbersOf (outstandingIn b)) ++ b.settled;
-      givenUp = b.givenUp;
+      given_out = b.given_out;
+      settled = keep (among (ack_numbers through count pairs)) (numbers_of (outstanding_in b)) ++ b.settled;
+      given_up = b.given_up;
     }
 
 -- a call: one that was refused changes nothing
@@ -58,26 +58,26 @@ books [] = opening
 books (c ∷ past) = entered (books past) c
 
 -- the numbers given out in it
-unfoldable pub givenOut : List Call → List ℕ
-givenOut h = numbersOf (books h).givenOut
+unfoldable pub given_out : List Call → List ℕ
+given_out h = numbers_of (books h).given_out
 
 -- those settled in it
 unfoldable pub settled : List Call → List ℕ
 settled h = (books h).settled
 
 -- and those given up
-unfoldable pub givenUp : List Call → List ℕ
-givenUp h = (books h).givenUp
+unfoldable pub given_up : List Call → List ℕ
+given_up h = (books h).given_up
 
 -- ---- the sender beside it
 -- the sender that a history makes
-unfoldable pub senderBy : List Call → Sender
-senderBy [] = newSender
-senderBy (c ∷ past) = (called (senderBy past) c).sender
+unfoldable pub sender_by : List Call → Sender
+sender_by [] = new_sender
+sender_by (c ∷ past) = (called (sender_by past) c).sender
 
 -- the numbers on its list
 unfoldable pub outstanding : List Call → List ℕ
-outstanding h = numbersOf (senderBy h).packets
+outstanding h = numbers_of (sender_by h).packets
 
 -- ---- counting
 -- how often n stands in a list

@@ -2,25 +2,25 @@
 use Rattle.std.specs.Prelude.{ℕ}
 
 -- so many packets are outstanding at most
-abbrev pub mostOutstanding : ℕ
-mostOutstanding = 256
+abbrev pub most_outstanding : ℕ
+most_outstanding = 256
 
 -- the last number that is given out
-abbrev pub lastNumber : ℕ
-lastNumber = 4294967295
+abbrev pub last_number : ℕ
+last_number = 4294967295
 
 -- where the count of outstanding packets stands in the record, behind the highest number given out
-abbrev pub outstandingAt : ℕ
-outstandingAt = 4
+abbrev pub outstanding_at : ℕ
+outstanding_at = 4
 
 -- where the packets begin, behind that count
-abbrev pub packetsAt : ℕ
-packetsAt = 8
+abbrev pub packets_at : ℕ
+packets_at = 8
 
 -- a packet's bytes: its number, how often it was resent, the second it was sent
-abbrev pub packetSize : ℕ
-packetSize = 16
+abbrev pub packet_size : ℕ
+packet_size = 16
 
 -- the record: the highest number, the count, 256 packets
-abbrev pub senderSize : ℕ
-senderSize = 4104
+abbrev pub sender_size : ℕ
+sender_size = 4104

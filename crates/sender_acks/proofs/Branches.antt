@@ -9,105 +9,105 @@ use lib.Dec.{ltb, eqb}
 use lib.ListN.{length, set}
 use borrow.Author.Tests.{lt-ltb, le-ltb}
 use Rattle.wire.specs.Parts.{part, splice}
-use Rattle.wire.specs.Numbers.{Bytes, littleAt, littleBytes}
-use Rattle.wire.proofs.Parts.{splice-part}
-use Rattle.wire.proofs.Slices.{splice-none}
-use Rattle.acks.specs.Expanding.{goesBelow}
-use Rattle.sender.specs.Sizes.{mostOutstanding, packetsAt, packetSize, senderSize}
-use Rattle.sender.specs.Sender.{Call, ack, callAnswer, answerBy, settledBy}
-use Rattle.sender.specs.Recorded.{outstandingCount, packetAt, senderAt, answerThere, senderAfter, settledThere}
+use Rattle.wire.specs.Numbers.{Bytes, little_at, little_bytes}
+use Rattle.wire.proofs.Parts.{splice_part}
+use Rattle.wire.proofs.Slices.{splice_none}
+use Rattle.acks.specs.Expanding.{goes_below}
+use Rattle.sender.specs.Sizes.{most_outstanding, packets_at, packet_size, sender_size}
+use Rattle.sender.specs.Sender.{Call, ack, call_answer, answer_by, settled_by}
+use Rattle.sender.specs.Recorded.{outstanding_count, packet_at, sender_at, answer_there, sender_after, settled_there}
 use Rattle.sender.specs.Settling.{Passed, Walked}
 use Rattle.sender.specs.declared.Acked.{Acked}
-use Rattle.sender.proofs.Answers.{outside-through}
-use Rattle.sender.proofs.Lent.{is-long, short-59}
+use Rattle.sender.proofs.Answers.{outside_through}
+use Rattle.sender.proofs.Lent.{is_long, short_59}
 use Rattle.acks.proofs.Ring.{split}
-use Rattle.sender.proofs.Settling.{Settling, settling-start, settling-turn, walked-saved}
+use Rattle.sender.proofs.Settling.{Settling, settling_start, settling_turn, walked_saved}
 
 -- a packet that moves to where it stands
-pub stays-there : (rec : List ℕ) (kept k : ℕ) → senderSize ≤ length rec → k < mostOutstanding → kept ≡ k → rec ≡ splice rec (packetsAt + kept * packetSize) (part rec (packetsAt + k * packetSize) packetSize)
-stays-there rec kept k long few e = rw e (sym (splice-part rec (packetsAt + k * packetSize) packetSize (omega arith)))
+pub stays_there : (rec : List ℕ) (kept k : ℕ) → sender_size ≤ length rec → k < most_outstanding → kept ≡ k → rec ≡ splice rec (packets_at + kept * packet_size) (part rec (packets_at + k * packet_size) packet_size)
+stays_there rec kept k long few e = rw e (sym (splice_part rec (packets_at + k * packet_size) packet_size (omega arith)))
 
 -- the k-th packet is named, or it is not
-module _ (test : ℕ → Bool) (rec settled : List ℕ) (kept k number : ℕ) (named : Bool) (en : number ≡ (packetAt rec k).number) (et : named ≡ test number) where
-  names-it : test (packetAt rec k).number ≡ named
-  names-it = sym (et ∙ ap test en)
+module _ (test : ℕ → Bool) (rec settled : List ℕ) (kept k number : ℕ) (named : Bool) (en : number ≡ (packet_at rec k).number) (et : named ≡ test number) where
+  names_it : test (packet_at rec k).number ≡ named
+  names_it = sym (et ∙ ap test en)
 
-  pub passed-named : (next at : ℕ) → next ≡ kept → at ≡ k - kept → named ≡ true → Passed (test (packetAt rec k).number) k kept next rec rec settled (set settled at number)
-  passed-named next at e f t = record { counts = rw (names-it, t) e; moves = rw (names-it, t) refl; tells = rw (names-it, t, en, f) refl }
+  pub passed_named : (next at : ℕ) → next ≡ kept → at ≡ k - kept → named ≡ true → Passed (test (packet_at rec k).number) k kept next rec rec settled (set settled at number)
+  passed_named next at e f t = record { counts = rw (names_it, t) e; moves = rw (names_it, t) refl; tells = rw (names_it, t, en, f) refl }
 
-  pub passed-kept : (next : ℕ) (after : List ℕ) → next ≡ kept + 1 → named ≡ false → after ≡ splice rec (packetsAt + kept * packetSize) (part rec (packetsAt + k * packetSize) packetSize) → Passed (test (packetAt rec k).number) k kept next rec after settled settled
-  passed-kept next after f t e = record { counts = rw (names-it, t) f; moves = rw (names-it, t, e) refl; tells = rw (names-it, t) refl }
+  pub passed_kept : (next : ℕ) (after : List ℕ) → next ≡ kept + 1 → named ≡ false → after ≡ splice rec (packets_at + kept * packet_size) (part rec (packets_at + k * packet_size) packet_size) → Passed (test (packet_at rec k).number) k kept next rec after settled settled
+  passed_kept next after f t e = record { counts = rw (names_it, t) f; moves = rw (names_it, t, e) refl; tells = rw (names_it, t) refl }
 
 -- ---- the packets in front that are not named
 -- one more
-pub unnamed-more : (test : ℕ → Bool) (rec : List ℕ) (k number : ℕ) (named : Bool) → ((j : ℕ) → j < k → test (packetAt rec j).number ≡ false) → number ≡ (packetAt rec k).number → named ≡ test number → named ≡ false
-    → (j : ℕ) → j < k + 1 → test (packetAt rec j).number ≡ false
-unnamed-more test rec k number named all en et f j h = go (split j k)
+pub unnamed_more : (test : ℕ → Bool) (rec : List ℕ) (k number : ℕ) (named : Bool) → ((j : ℕ) → j < k → test (packet_at rec j).number ≡ false) → number ≡ (packet_at rec k).number → named ≡ test number → named ≡ false
+    → (j : ℕ) → j < k + 1 → test (packet_at rec j).number ≡ false
+unnamed_more test rec k number named all en et f j h = go (split j k)
   where
-    go : (j < k) ⊎ (k ≤ j) → test (packetAt rec j).number ≡ false
+    go : (j < k) ⊎ (k ≤ j) → test (packet_at rec j).number ≡ false
     go (inl b) = all j b
     go (inr b) =
         let e : j ≡ k = omega arith in
-        ap (λ (i : ℕ). test (packetAt rec i).number) e ∙ sym (et ∙ ap test en) ∙ f
+        ap (λ (i : ℕ). test (packet_at rec i).number) e ∙ sym (et ∙ ap test en) ∙ f
 
 -- they stay where they stand, and no number is told
-pub settling-prefix : (test : ℕ → Bool) (rec settled : List ℕ) → senderSize ≤ length rec → mostOutstanding ≤ length settled → Bytes rec
-    → (k : ℕ) → k ≤ mostOutstanding → ((j : ℕ) → j < k → test (packetAt rec j).number ≡ false) → Settling test rec settled k rec settled k
-settling-prefix test rec settled long room bytes zero few none = settling-start test rec settled
-settling-prefix test rec settled long room bytes (suc k) few none =
-    let s : Settling test rec settled k rec settled k = settling-prefix test rec settled long room bytes k (omega arith) (λ j h. none j (omega arith)) in
-    let f : test (packetAt rec k).number ≡ false = none k (omega arith) in
-    let p : Passed (test (packetAt rec k).number) k k (k + 1) rec rec settled settled =
-    passed-kept test rec settled k k (packetAt rec k).number false refl (sym f) (k + 1) rec refl refl (stays-there rec k k long (omega arith) refl) in
-    let t : Settling test rec settled (k + 1) rec settled (k + 1) = settling-turn s long room (omega arith) bytes p in
+pub settling_prefix : (test : ℕ → Bool) (rec settled : List ℕ) → sender_size ≤ length rec → most_outstanding ≤ length settled → Bytes rec
+    → (k : ℕ) → k ≤ most_outstanding → ((j : ℕ) → j < k → test (packet_at rec j).number ≡ false) → Settling test rec settled k rec settled k
+settling_prefix test rec settled long room bytes zero few none = settling_start test rec settled
+settling_prefix test rec settled long room bytes (suc k) few none =
+    let s : Settling test rec settled k rec settled k = settling_prefix test rec settled long room bytes k (omega arith) (λ j h. none j (omega arith)) in
+    let f : test (packet_at rec k).number ≡ false = none k (omega arith) in
+    let p : Passed (test (packet_at rec k).number) k k (k + 1) rec rec settled settled =
+    passed_kept test rec settled k k (packet_at rec k).number false refl (sym f) (k + 1) rec refl refl (stays_there rec k k long (omega arith) refl) in
+    let t : Settling test rec settled (k + 1) rec settled (k + 1) = settling_turn s long room (omega arith) bytes p in
     let e : k + 1 ≡ suc k = omega arith in
     subst (λ (n : ℕ). Settling test rec settled n rec settled n) e t
 
 -- what a call answers and leaves, as `ack_in` says it
 abbrev pub Answered : List ℕ → Call → List ℕ → Acked → List ℕ → List ℕ → Type 0
 Answered r c settled a after told =
-    (a ≡ record { answer = answerThere r c; count = length (settledThere r c) }) × (after ≡ senderAfter r c) × (told ≡ splice settled 0 (settledThere r c))
+    (a ≡ record { answer = answer_there r c; count = length (settled_there r c) }) × (after ≡ sender_after r c) × (told ≡ splice settled 0 (settled_there r c))
 
 -- refused: nothing changes
-refused : (r : List ℕ) (c : Call) (settled : List ℕ) (n : ℕ) → answerThere r c ≡ n → eqb n 0 ≡ false → Answered r c settled (record { answer = n; count = 0 }) r settled
-unfolding senderAfter settledThere
+refused : (r : List ℕ) (c : Call) (settled : List ℕ) (n : ℕ) → answer_there r c ≡ n → eqb n 0 ≡ false → Answered r c settled (record { answer = n; count = 0 }) r settled
+unfolding sender_after settled_there
 refused r c settled n e f =
-    rw (e, f) (refl, refl, sym (splice-none settled 0))
+    rw (e, f) (refl, refl, sym (splice_none settled 0))
 
 module _ (r settled : List ℕ) (through count : ℕ) (pairs : List ℕ) where
-  pub too_short : length r < senderSize → Answered r (ack through count pairs) settled (record { answer = 59; count = 0 }) r settled
-  too_short h = refused r (ack through count pairs) settled 59 (short-59 r (ack through count pairs) h) refl
+  pub too_short_lem : length r < sender_size → Answered r (ack through count pairs) settled (record { answer = 59; count = 0 }) r settled
+  too_short_lem h = refused r (ack through count pairs) settled 59 (short_59 r (ack through count pairs) h) refl
 
-  module _ (long : senderSize ≤ length r) (within : Bool) (ew : within ≡ not (goesBelow through count pairs)) where
-    judged : (d : Bool) → ltb (littleAt 4 r 0) through ≡ d → answerThere r (ack through count pairs) ≡ cond within (cond d 72 0) 44
-    unfolding answerThere answerBy callAnswer senderAt
-    judged d e = rw (is-long r long, outside-through (littleAt 4 r 0) through count pairs, e, ew) (turned (goesBelow through count pairs))
+  module _ (long : sender_size ≤ length r) (within : Bool) (ew : within ≡ not (goes_below through count pairs)) where
+    judged : (d : Bool) → ltb (little_at 4 r 0) through ≡ d → answer_there r (ack through count pairs) ≡ cond within (cond d 72 0) 44
+    unfolding answer_there answer_by call_answer sender_at
+    judged d e = rw (is_long r long, outside_through (little_at 4 r 0) through count pairs, e, ew) (turned (goes_below through count pairs))
       where
         turned : (b : Bool) → ◌≡◌ {A = ℕ} (cond b 44 (cond d 72 0)) (cond (not b) (cond d 72 0) 44)
         turned true = refl
         turned false = refl
 
-    pub goes-below : within ≡ false → Answered r (ack through count pairs) settled (record { answer = 44; count = 0 }) r settled
-    goes-below t =
+    pub goes_below_lem : within ≡ false → Answered r (ack through count pairs) settled (record { answer = 44; count = 0 }) r settled
+    goes_below_lem t =
         refused r (ack through count pairs) settled 44
-        (judged (ltb (littleAt 4 r 0) through) refl ∙ ap (λ (b : Bool). cond b (cond (ltb (littleAt 4 r 0) through) 72 0) 44) t) refl
+        (judged (ltb (little_at 4 r 0) through) refl ∙ ap (λ (b : Bool). cond b (cond (ltb (little_at 4 r 0) through) 72 0) 44) t) refl
 
-    module _ (t : within ≡ true) (highest : ℕ) (eh : highest ≡ littleAt 4 r 0) where
-      pub never-given : highest < through → Answered r (ack through count pairs) settled (record { answer = 72; count = 0 }) r settled
-      never-given h =
+    module _ (t : within ≡ true) (highest : ℕ) (eh : highest ≡ little_at 4 r 0) where
+      pub never_given : highest < through → Answered r (ack through count pairs) settled (record { answer = 72; count = 0 }) r settled
+      never_given h =
           refused r (ack through count pairs) settled 72
-          (judged true (lt-ltb (littleAt 4 r 0) through (omega arith)) ∙ ap (λ (b : Bool). cond b 72 44) t) refl
+          (judged true (lt-ltb (little_at 4 r 0) through (omega arith)) ∙ ap (λ (b : Bool). cond b 72 44) t) refl
 
       -- all packets are passed, and the highest number and the count are put in front
-      pub acked : (outstanding kept : ℕ) (after told saved : List ℕ) → through ≤ highest → outstanding ≡ outstandingCount r → outstanding ≤ mostOutstanding
-          → Walked (ack through count pairs) kept r after settled told → saved ≡ splice after 0 (littleBytes 4 highest ++ littleBytes 4 kept)
+      pub acked : (outstanding kept : ℕ) (after told saved : List ℕ) → through ≤ highest → outstanding ≡ outstanding_count r → outstanding ≤ most_outstanding
+          → Walked (ack through count pairs) kept r after settled told → saved ≡ splice after 0 (little_bytes 4 highest ++ little_bytes 4 kept)
           → Answered r (ack through count pairs) settled (record { answer = 0; count = outstanding - kept }) saved told
-      unfolding senderAfter settledThere
+      unfolding sender_after settled_there
       acked outstanding kept after told saved h eo few w e =
-          let q : answerThere r (ack through count pairs) ≡ 0 = judged false (le-ltb (littleAt 4 r 0) through (omega arith)) ∙ ap (λ (b : Bool). cond b 0 44) t in
-          let n : outstanding - kept ≡ length (settledBy (senderAt r) (ack through count pairs)) = omega (arith, w.adds-up) in
+          let q : answer_there r (ack through count pairs) ≡ 0 = judged false (le-ltb (little_at 4 r 0) through (omega arith)) ∙ ap (λ (b : Bool). cond b 0 44) t in
+          let n : outstanding - kept ≡ length (settled_by (sender_at r) (ack through count pairs)) = omega (arith, w.adds_up) in
           rw (q, n) (
             refl,
-            e ∙ ap (λ (x : ℕ). splice after 0 (littleBytes 4 x ++ littleBytes 4 kept)) eh ∙ walked-saved r settled through count pairs w long (omega arith),
+            e ∙ ap (λ (x : ℕ). splice after 0 (little_bytes 4 x ++ little_bytes 4 kept)) eh ∙ walked_saved r settled through count pairs w long (omega arith),
             w.tells,
           )

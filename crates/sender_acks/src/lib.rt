@@ -1,13 +1,13 @@
 // An Ack block fed to a sender, on a record that the caller lends: one walk up the list beside one up the pairs.
 ghost use Rattle.std.specs.Prelude.{◌≡◌, true, ◌+◌, ◌-◌, ◌*◌, ◌<◌, ◌≤◌, length};
 ghost use Rattle.wire.specs.Parts.{part, splice};
-ghost use Rattle.acks.specs.Runs.{wholePairs, runSum};
+ghost use Rattle.acks.specs.Runs.{whole_pairs, run_sum};
 ghost use Rattle.acks.specs.History.{among};
-ghost use Rattle.acks.specs.Expanding.{ackNumbers};
+ghost use Rattle.acks.specs.Expanding.{ack_numbers};
 ghost use Rattle.acks.specs.Naming.{StandsAt, RunOf};
-ghost use Rattle.sender.specs.Sizes.{mostOutstanding, packetsAt, packetSize, senderSize};
+ghost use Rattle.sender.specs.Sizes.{most_outstanding, packets_at, packet_size, sender_size};
 ghost use Rattle.sender.specs.Sender.{ack};
-ghost use Rattle.sender.specs.Recorded.{outstandingCount, packetAt, answerThere, senderAfter, settledThere};
+ghost use Rattle.sender.specs.Recorded.{outstanding_count, packet_at, answer_there, sender_after, settled_there};
 ghost use Rattle.sender.specs.Settling.{Passed, Walked};
 ghost use Rattle.sender_acks.specs.Unnamed.{Unnamed};
 
@@ -43,8 +43,8 @@ fn between(first: u32, last: u32, number: u32) -> bool
 
 // The walk up the pairs, moved to a number and saying whether it is named: in the run where the last one stood no pair is read.
 fn look(through: u32, count: u8, pairs: &[u8], lowest: u32, w: Walk, number: u32) -> Walk
-    requires { (lowest + (count + runSum (wholePairs pairs.now)) ≡ through) × StandsAt through count pairs.now w.place w.low × RunOf through count pairs.now w.first w.last w.named }
-    ensures { (result.told ≡ w.told) × (result.named ≡ among (ackNumbers through count pairs.now) number) × StandsAt through count pairs.now result.place result.low × RunOf through count pairs.now result.first result.last result.named }
+    requires { (lowest + (count + run_sum (whole_pairs pairs.now)) ≡ through) × StandsAt through count pairs.now w.place w.low × RunOf through count pairs.now w.first w.last w.named }
+    ensures { (result.told ≡ w.told) × (result.named ≡ among (ack_numbers through count pairs.now) number) × StandsAt through count pairs.now result.place result.low × RunOf through count pairs.now result.first result.last result.named }
 {
     if between(w.first, w.last, number) {
         return w;
@@ -62,7 +62,7 @@ fn look(through: u32, count: u8, pairs: &[u8], lowest: u32, w: Walk, number: u32
 
 // The packets in front of the first that is named, which stay where they stand: how many, and where the walk stands then.
 fn pass(rec: &[u8], through: u32, count: u8, pairs: &[u8], lowest: u32, outstanding: usize) -> Start
-    requires { (senderSize ≤ length rec.now) × (outstanding ≤ mostOutstanding) × (lowest + (count + runSum (wholePairs pairs.now)) ≡ through) }
+    requires { (sender_size ≤ length rec.now) × (outstanding ≤ most_outstanding) × (lowest + (count + run_sum (whole_pairs pairs.now)) ≡ through) }
     ensures { (result.passed ≤ outstanding) × Unnamed through count pairs.now rec.now result.passed × (result.walk.told ≡ 0) × StandsAt through count pairs.now result.walk.place result.walk.low × RunOf through count pairs.now result.walk.first result.walk.last result.walk.named }
 {
     let n = pairs.len();
@@ -98,8 +98,8 @@ fn pass(rec: &[u8], through: u32, count: u8, pairs: &[u8], lowest: u32, outstand
 
 // The k-th packet moves down behind those that are kept; where all before it are, it stands there already.
 fn keep_one(rec: &mut [u8], kept: usize, k: usize)
-    requires { (senderSize ≤ length rec.old) × (kept ≤ k) × (k < mostOutstanding) }
-    ensures { rec.new ≡ splice rec.old (packetsAt + kept * packetSize) (part rec.old (packetsAt + k * packetSize) packetSize) }
+    requires { (sender_size ≤ length rec.old) × (kept ≤ k) × (k < most_outstanding) }
+    ensures { rec.new ≡ splice rec.old (packets_at + kept * packet_size) (part rec.old (packets_at + k * packet_size) packet_size) }
 {
     if kept == k {
         return;
@@ -118,8 +118,8 @@ fn settle_one(
     w: Walk,
     k: usize,
 ) -> Walk
-    requires { (senderSize ≤ length rec.old) × (mostOutstanding ≤ length settled.old) × (w.told ≤ k) × (k < mostOutstanding) × (lowest + (count + runSum (wholePairs pairs.now)) ≡ through) × StandsAt through count pairs.now w.place w.low × RunOf through count pairs.now w.first w.last w.named }
-    ensures { Passed (among (ackNumbers through count pairs.now) (packetAt rec.old k).number) k (k - w.told) (k + 1 - result.told) rec.old rec.new settled.old settled.new × (result.told ≤ k + 1) × StandsAt through count pairs.now result.place result.low × RunOf through count pairs.now result.first result.last result.named }
+    requires { (sender_size ≤ length rec.old) × (most_outstanding ≤ length settled.old) × (w.told ≤ k) × (k < most_outstanding) × (lowest + (count + run_sum (whole_pairs pairs.now)) ≡ through) × StandsAt through count pairs.now w.place w.low × RunOf through count pairs.now w.first w.last w.named }
+    ensures { Passed (among (ack_numbers through count pairs.now) (packet_at rec.old k).number) k (k - w.told) (k + 1 - result.told) rec.old rec.new settled.old settled.new × (result.told ≤ k + 1) × StandsAt through count pairs.now result.place result.low × RunOf through count pairs.now result.first result.last result.named }
 {
     let number = sender_records::number_at(rec, k);
     let next = look(through, count, pairs, lowest, w, number);
@@ -150,7 +150,7 @@ fn settle(
     settled: &mut [u32],
     outstanding: usize,
 ) -> usize
-    requires { (senderSize ≤ length rec.old) × (mostOutstanding ≤ length settled.old) × (outstanding ≡ outstandingCount rec.old) × (outstanding ≤ mostOutstanding) × (lowest + (count + runSum (wholePairs pairs.now)) ≡ through) }
+    requires { (sender_size ≤ length rec.old) × (most_outstanding ≤ length settled.old) × (outstanding ≡ outstanding_count rec.old) × (outstanding ≤ most_outstanding) × (lowest + (count + run_sum (whole_pairs pairs.now)) ≡ through) }
     ensures { Walked (ack through count pairs.now) result rec.old rec.new settled.old settled.new }
 {
     let s = pass(rec, through, count, pairs, lowest, outstanding);
@@ -172,7 +172,7 @@ pub fn ack_in(
     pairs: &[u8],
     settled: &mut [u32; 256],
 ) -> Acked
-    ensures { (result ≡ record { answer = answerThere rec.old (ack through count pairs.now); count = length (settledThere rec.old (ack through count pairs.now)) }) × (rec.new ≡ senderAfter rec.old (ack through count pairs.now)) × (settled.new ≡ splice settled.old 0 (settledThere rec.old (ack through count pairs.now))) }
+    ensures { (result ≡ record { answer = answer_there rec.old (ack through count pairs.now); count = length (settled_there rec.old (ack through count pairs.now)) }) × (rec.new ≡ sender_after rec.old (ack through count pairs.now)) × (settled.new ≡ splice settled.old 0 (settled_there rec.old (ack through count pairs.now))) }
 {
     if rec.len() < SENDER_SIZE {
         return Acked {

@@ -1,9 +1,9 @@
 // The sender's calls but for the ack, on a record that the caller lends: changed in place, without a copy. All zero is a sender that has given out nothing.
 ghost use Rattle.std.specs.Prelude.{◌≡◌, ◌+◌, ◌≤◌, length};
-ghost use Rattle.wire.specs.Numbers.{littleBytes};
+ghost use Rattle.wire.specs.Numbers.{little_bytes};
 ghost use Rattle.sender.specs.Sender.{send, resend, place_of};
-ghost use Rattle.sender.specs.Sizes.{senderSize};
-ghost use Rattle.sender.specs.Recorded.{outstandingCount, senderAt, answerThere, givenThere, senderAfter, outstandingThere, packetNumbers};
+ghost use Rattle.sender.specs.Sizes.{sender_size};
+ghost use Rattle.sender.specs.Recorded.{outstanding_count, sender_at, answer_there, given_there, sender_after, outstanding_there, packet_numbers};
 
 use sender::{Given, LAST_NUMBER, MOST_OUTSTANDING, SENDER_SIZE};
 
@@ -15,7 +15,7 @@ fn refused(answer: u32) -> Given
 
 // A packet is sent: 0 and its number; or 59, 71, 70.
 pub fn send_in(rec: &mut [u8], second: u64) -> Given
-    ensures { (result ≡ record { answer = answerThere rec.old (send second); number = givenThere rec.old (send second) }) × (rec.new ≡ senderAfter rec.old (send second)) }
+    ensures { (result ≡ record { answer = answer_there rec.old (send second); number = given_there rec.old (send second) }) × (rec.new ≡ sender_after rec.old (send second)) }
 {
     if rec.len() < SENDER_SIZE {
         return refused(59);
@@ -36,15 +36,15 @@ pub fn send_in(rec: &mut [u8], second: u64) -> Given
 
 // Calls never reach the last count: each resend uses up a number.
 fn one_more(resends: u32) -> u32
-    ensures { littleBytes 4 result ≡ littleBytes 4 (resends + 1) }
+    ensures { little_bytes 4 result ≡ little_bytes 4 (resends + 1) }
 {
     std::num::wrapping_add_u32(resends, 1)
 }
 
 // Where the packet of a number stands among the outstanding ones; their count where it is not one of them.
 fn place_of(rec: &[u8], count: usize, n: u32) -> usize
-    requires { (senderSize ≤ length rec.now) × (count ≡ outstandingCount rec.now) }
-    ensures { (result ≤ count) × (result ≡ place_of n (senderAt rec.now).packets) }
+    requires { (sender_size ≤ length rec.now) × (count ≡ outstanding_count rec.now) }
+    ensures { (result ≤ count) × (result ≡ place_of n (sender_at rec.now).packets) }
 {
     let mut k = 0;
     while k < count {
@@ -58,7 +58,7 @@ fn place_of(rec: &[u8], count: usize, n: u32) -> usize
 
 // The packet of a number is sent again: 0 and its new number; or 59, 73, 71. Those behind the old one move down, and the new one stands last.
 pub fn resend_in(rec: &mut [u8], n: u32, second: u64) -> Given
-    ensures { (result ≡ record { answer = answerThere rec.old (resend n second); number = givenThere rec.old (resend n second) }) × (rec.new ≡ senderAfter rec.old (resend n second)) }
+    ensures { (result ≡ record { answer = answer_there rec.old (resend n second); number = given_there rec.old (resend n second) }) × (rec.new ≡ sender_after rec.old (resend n second)) }
 {
     if rec.len() < SENDER_SIZE {
         return refused(59);
@@ -82,7 +82,7 @@ pub fn resend_in(rec: &mut [u8], n: u32, second: u64) -> Given
 
 // The k-th outstanding packet, the oldest first: its number, second and resends in out, which stays where there are not so many. How many there are, 0 where the record is short.
 pub fn packet_in(rec: &[u8], k: usize, out: &mut [u64; 3]) -> usize
-    ensures { (result ≡ outstandingThere rec.now) × (out.new ≡ packetNumbers rec.now k out.old) }
+    ensures { (result ≡ outstanding_there rec.now) × (out.new ≡ packet_numbers rec.now k out.old) }
 {
     if rec.len() < SENDER_SIZE {
         return 0;

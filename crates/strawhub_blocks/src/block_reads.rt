@@ -1,15 +1,15 @@
 // Reading a block by numbers.
 ghost use Rattle.std.specs.Prelude.{◌≡◌};
-ghost use Rattle.blocks.specs.Reading.{readAt};
-ghost use Rattle.blocks.specs.Numbers.{asNumbers, readNumbers};
-ghost use Rattle.numbers_outcomes.specs.Outcomes.{readOutcome};
+ghost use Rattle.blocks.specs.Reading.{read_at};
+ghost use Rattle.blocks.specs.Numbers.{as_numbers, read_numbers};
+ghost use Rattle.numbers_outcomes.specs.Outcomes.{read_outcome};
 
 use blocks::{Extent, FOLLOW_ON_BYTE, FOLLOW_ON_FRAGMENT, FOLLOW_ON_ID};
 use numbers_outcomes::Outcome;
 
 // A block's fields as they are passed: of a follow-on's first byte its number, and the mark of the last.
 fn as_numbers(kind: u8, fields: [u64; 8]) -> [u64; 8]
-    ensures { result ≡ asNumbers kind fields }
+    ensures { result ≡ as_numbers kind fields }
 {
     if kind == FOLLOW_ON_FRAGMENT {
         let byte = fields[FOLLOW_ON_BYTE];
@@ -21,7 +21,7 @@ fn as_numbers(kind: u8, fields: [u64; 8]) -> [u64; 8]
 // Reads the block at a place: 0 and the place after it, its numbers in out; or the refusal and the block's place, and then out is as it was.
 #[unsafe(no_mangle)]
 pub extern "C" fn strawhub_block_read(payload: &[u8], at: usize, out: &mut [u64; 12]) -> Outcome
-    ensures { (result ≡ readOutcome (readAt payload.now at)) × (out.new ≡ readNumbers (readAt payload.now at) out.old) }
+    ensures { (result ≡ read_outcome (read_at payload.now at)) × (out.new ≡ read_numbers (read_at payload.now at) out.old) }
 {
     let read = blocks_reader::read_block(payload, at);
     let extent = read.extent;

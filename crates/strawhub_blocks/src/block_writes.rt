@@ -1,7 +1,7 @@
 // Writing a block by numbers.
 ghost use Rattle.std.specs.Prelude.{◌≡◌, cond, ◌≤◌, min, length};
-ghost use Rattle.blocks.specs.Numbers.{asFields, writingBy, roomBy};
-ghost use Rattle.numbers_outcomes.specs.Outcomes.{writeOutcome};
+ghost use Rattle.blocks.specs.Numbers.{as_fields, writing_by, room_by};
+ghost use Rattle.numbers_outcomes.specs.Outcomes.{write_outcome};
 
 use blocks::FOLLOW_ON_FRAGMENT;
 use numbers_outcomes::{Outcome, outcome_of};
@@ -34,7 +34,7 @@ fn at_most_128(number: u64) -> u64
 
 // The fields of the eight numbers that are passed.
 fn as_fields(kind: u8, v: [u64; 8]) -> [u64; 8]
-    ensures { result ≡ asFields kind v }
+    ensures { result ≡ as_fields kind v }
 {
     if kind == FOLLOW_ON_FRAGMENT {
         return [
@@ -59,7 +59,7 @@ pub extern "C" fn strawhub_block_write(
     fields: &[u64; 8],
     bytes: &[u8],
 ) -> Outcome
-    ensures { (result ≡ writeOutcome (writingBy kind fields.now bytes.now (length room.old))) × (room.new ≡ roomBy kind fields.now bytes.now room.old) }
+    ensures { (result ≡ write_outcome (writing_by kind fields.now bytes.now (length room.old))) × (room.new ≡ room_by kind fields.now bytes.now room.old) }
 {
     let v = *fields;
     let f = as_fields(kind, v);

@@ -1,8 +1,8 @@
 // Header calls.
 ghost use Rattle.std.specs.Prelude.{◌≡◌, length};
-ghost use Rattle.header.specs.Reading.{headerAnswer, packetAfterRead};
-ghost use Rattle.header.specs.Writing.{writeNumber, packetAfterWrite};
-ghost use Rattle.numbers.specs.Headers.{answerNumber, answerNumbers, fieldsBy};
+ghost use Rattle.header.specs.Reading.{header_answer, packet_after_read};
+ghost use Rattle.header.specs.Writing.{write_number, packet_after_write};
+ghost use Rattle.numbers.specs.Headers.{answer_number, answer_numbers, fields_by};
 
 use header::Fields;
 
@@ -14,7 +14,7 @@ pub extern "C" fn strawhub_header_read(
     k2: &[u8; 32],
     out: &mut [u64; 11],
 ) -> u32
-    ensures { (result ≡ answerNumber (headerAnswer k1.now k2.now pkt.old)) × (pkt.new ≡ packetAfterRead k1.now k2.now pkt.old) × (out.new ≡ answerNumbers (headerAnswer k1.now k2.now pkt.old) out.old) }
+    ensures { (result ≡ answer_number (header_answer k1.now k2.now pkt.old)) × (pkt.new ≡ packet_after_read k1.now k2.now pkt.old) × (out.new ≡ answer_numbers (header_answer k1.now k2.now pkt.old) out.old) }
 {
     let answer = header_packets::read(pkt, k1, k2);
     numbers_headers::put_numbers(answer, out)
@@ -37,7 +37,7 @@ pub extern "C" fn strawhub_header_write(
     count: u8,
     immediate: u8,
 ) -> u32
-    ensures { (result ≡ writeNumber (fieldsBy kind destination number version network source token fragment count immediate) (length pkt.old)) × (pkt.new ≡ packetAfterWrite k1.now k2.now (fieldsBy kind destination number version network source token fragment count immediate) pkt.old) }
+    ensures { (result ≡ write_number (fields_by kind destination number version network source token fragment count immediate) (length pkt.old)) × (pkt.new ≡ packet_after_write k1.now k2.now (fields_by kind destination number version network source token fragment count immediate) pkt.old) }
 {
     let f = Fields {
         kind,

@@ -2,7 +2,7 @@
 ghost use Rattle.std.specs.Prelude.{◌≡◌, length};
 ghost use Rattle.wire.specs.Parts.{splice};
 ghost use Rattle.sender.specs.Sender.{send, resend, ack};
-ghost use Rattle.sender.specs.Recorded.{lentAnswer, newSenderRecord, answerThere, givenThere, senderAfter, settledThere, outstandingThere, packetNumbers};
+ghost use Rattle.sender.specs.Recorded.{lent_answer, new_sender_record, answer_there, given_there, sender_after, settled_there, outstanding_there, packet_numbers};
 ghost use Rattle.numbers_outcomes.specs.Outcomes.{outcome};
 
 use numbers_outcomes::Outcome;
@@ -29,7 +29,7 @@ fn acked_outcome(a: Acked) -> Outcome
 // A sender that has given out nothing. 59 where the record is short, and then it stays.
 #[unsafe(no_mangle)]
 pub extern "C" fn strawhub_sender_new(sender: &mut [u8]) -> u32
-    ensures { (result ≡ lentAnswer sender.old) × (sender.new ≡ newSenderRecord sender.old) }
+    ensures { (result ≡ lent_answer sender.old) × (sender.new ≡ new_sender_record sender.old) }
 {
     if sender.len() < SENDER_SIZE {
         return 59;
@@ -42,7 +42,7 @@ pub extern "C" fn strawhub_sender_new(sender: &mut [u8]) -> u32
 // A packet is sent, at a second: 0 and its number; or 59, 71, 70, and then the sender stays.
 #[unsafe(no_mangle)]
 pub extern "C" fn strawhub_sender_send(sender: &mut [u8], second: u64) -> Outcome
-    ensures { (result ≡ outcome (answerThere sender.old (send second)) (givenThere sender.old (send second))) × (sender.new ≡ senderAfter sender.old (send second)) }
+    ensures { (result ≡ outcome (answer_there sender.old (send second)) (given_there sender.old (send second))) × (sender.new ≡ sender_after sender.old (send second)) }
 {
     given_outcome(sender_list::send_in(sender, second))
 }
@@ -50,7 +50,7 @@ pub extern "C" fn strawhub_sender_send(sender: &mut [u8], second: u64) -> Outcom
 // The packet of a number is sent again: 0 and its new number; or 59, 73, 71, and then the sender stays.
 #[unsafe(no_mangle)]
 pub extern "C" fn strawhub_sender_resend(sender: &mut [u8], number: u32, second: u64) -> Outcome
-    ensures { (result ≡ outcome (answerThere sender.old (resend number second)) (givenThere sender.old (resend number second))) × (sender.new ≡ senderAfter sender.old (resend number second)) }
+    ensures { (result ≡ outcome (answer_there sender.old (resend number second)) (given_there sender.old (resend number second))) × (sender.new ≡ sender_after sender.old (resend number second)) }
 {
     given_outcome(sender_list::resend_in(sender, number, second))
 }
@@ -64,7 +64,7 @@ pub extern "C" fn strawhub_sender_ack(
     pairs: &[u8],
     settled: &mut [u32; 256],
 ) -> Outcome
-    ensures { (result ≡ outcome (answerThere sender.old (ack through count pairs.now)) (length (settledThere sender.old (ack through count pairs.now)))) × (sender.new ≡ senderAfter sender.old (ack through count pairs.now)) × (settled.new ≡ splice settled.old 0 (settledThere sender.old (ack through count pairs.now))) }
+    ensures { (result ≡ outcome (answer_there sender.old (ack through count pairs.now)) (length (settled_there sender.old (ack through count pairs.now)))) × (sender.new ≡ sender_after sender.old (ack through count pairs.now)) × (settled.new ≡ splice settled.old 0 (settled_there sender.old (ack through count pairs.now))) }
 {
     acked_outcome(sender_acks::ack_in(sender, through, count, pairs, settled))
 }
@@ -76,7 +76,7 @@ pub extern "C" fn strawhub_sender_outstanding(
     k: usize,
     out: &mut [u64; 3],
 ) -> Outcome
-    ensures { (result ≡ outcome (lentAnswer sender.now) (outstandingThere sender.now)) × (out.new ≡ packetNumbers sender.now k out.old) }
+    ensures { (result ≡ outcome (lent_answer sender.now) (outstanding_there sender.now)) × (out.new ≡ packet_numbers sender.now k out.old) }
 {
     if sender.len() < SENDER_SIZE {
         return Outcome {

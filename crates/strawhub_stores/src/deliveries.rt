@@ -1,6 +1,6 @@
 // What a block delivers, by numbers.
 ghost use Rattle.std.specs.Prelude.{◌≡◌};
-ghost use Rattle.numbers_outcomes.specs.Deliveries.{deliveryOutcome, deliveryNumbers, toldWith, deliverCall};
+ghost use Rattle.numbers_outcomes.specs.Deliveries.{delivery_outcome, delivery_numbers, told_with, deliver_call};
 ghost use Rattle.reassembly.specs.Calls.{lent};
 
 use messages::Received;
@@ -8,7 +8,7 @@ use numbers_outcomes::Outcome;
 
 // What was received put into the lent numbers; refused, they stay.
 fn tell(r: Received, told: &mut [u64; 6]) -> Outcome
-    ensures { (result ≡ deliveryOutcome r) × (told.new ≡ deliveryNumbers r told.old) }
+    ensures { (result ≡ delivery_outcome r) × (told.new ≡ delivery_numbers r told.old) }
 {
     if (r.number != 0) & (r.number != 60) {
         return Outcome {
@@ -42,7 +42,7 @@ pub extern "C" fn strawhub_block_deliver(
     second: u64,
     told: &mut [u64; 6],
 ) -> Outcome
-    ensures { toldWith result told.new (lent rec.new room.new out.new) ≡ deliverCall payload.now at (lent rec.old room.old out.old) neighbour second told.old }
+    ensures { told_with result told.new (lent rec.new room.new out.new) ≡ deliver_call payload.now at (lent rec.old room.old out.old) neighbour second told.old }
 {
     let r = messages::receive(payload, at, rec, room, out, neighbour, second);
     tell(r, told)

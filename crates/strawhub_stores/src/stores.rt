@@ -1,7 +1,7 @@
 // Store calls: the record is 9,352 bytes and the room 1,048,560 bytes that the caller keeps, as the last call left them.
 ghost use Rattle.std.specs.Prelude.{◌≡◌, false, not, eqb};
 ghost use Rattle.reassembly.specs.Calls.{lent, after};
-ghost use Rattle.reassembly.specs.Shares.{firstCall, followOnCall, swept, renewed, renewal};
+ghost use Rattle.reassembly.specs.Shares.{first_call, follow_on_call, swept, renewed, renewal};
 
 use reassembly::Reply;
 
@@ -26,7 +26,7 @@ pub extern "C" fn strawhub_store_first(
     second: u64,
     bytes: &[u8],
 ) -> Reply
-    ensures { after result (lent rec.new room.new out.new) ≡ firstCall (lent rec.old room.old out.old) neighbour (record { id = id; number = 0; last = false; kind = kind; expires = expires }) second bytes.now }
+    ensures { after result (lent rec.new room.new out.new) ≡ first_call (lent rec.old room.old out.old) neighbour (record { id = id; number = 0; last = false; kind = kind; expires = expires }) second bytes.now }
 {
     reassembly_store::first_fragment(rec, room, out, neighbour, id, kind, expires, second, bytes)
 }
@@ -44,7 +44,7 @@ pub extern "C" fn strawhub_store_follow_on(
     second: u64,
     bytes: &[u8],
 ) -> Reply
-    ensures { after result (lent rec.new room.new out.new) ≡ followOnCall (lent rec.old room.old out.old) neighbour (record { id = id; number = number; last = not (eqb last 0); kind = 0; expires = 0 }) second bytes.now }
+    ensures { after result (lent rec.new room.new out.new) ≡ follow_on_call (lent rec.old room.old out.old) neighbour (record { id = id; number = number; last = not (eqb last 0); kind = 0; expires = 0 }) second bytes.now }
 {
     reassembly_store::follow_on_fragment(
         rec,

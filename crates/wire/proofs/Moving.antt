@@ -7,11 +7,11 @@ use lib.ListN.{length, get_or, set}
 use lib.Seq.{paste, drop-paste, get_or-drop}
 use Rattle.wire.specs.Parts.{part, splice}
 use Rattle.wire.proofs.Parts.{length_part, get_d_part}
-use Rattle.wire.proofs.Copying.{copy-turn, copy-end}
+use Rattle.wire.proofs.Copying.{copy_turn, copy_end}
 
 -- what is read stands at or above the place that is written: it is as it was
-pub move-turn : (d x : List ℕ) (to from n i : ℕ) → x ≡ paste d to (part d from n) i → to ≤ from → from + n ≤ length d → i < n → set x (to + i) (get_or x (from + i) 0) ≡ paste d to (part d from n) (i + 1)
-move-turn d x to from n i e down fits h = ap (set x (to + i)) ahead ∙ copy-turn d (part d from n) x to i e (omega arith) (omega (arith, size))
+pub move_turn : (d x : List ℕ) (to from n i : ℕ) → x ≡ paste d to (part d from n) i → to ≤ from → from + n ≤ length d → i < n → set x (to + i) (get_or x (from + i) 0) ≡ paste d to (part d from n) (i + 1)
+move_turn d x to from n i e down fits h = ap (set x (to + i)) ahead ∙ copy_turn d (part d from n) x to i e (omega arith) (omega (arith, size))
   where
     size : length (part d from n) ≡ n
     size = length_part d from n fits
@@ -29,5 +29,5 @@ move-turn d x to from n i e down fits h = ap (set x (to + i)) ahead ∙ copy-tur
         ∙ ap (λ (k : ℕ). get_or d k 0) place
         ∙ sym (get_d_part d from n i 0 h)
 
-pub move-end : (d x : List ℕ) (to from n i : ℕ) → x ≡ paste d to (part d from n) i → from + n ≤ length d → i ≡ n → x ≡ splice d to (part d from n)
-move-end d x to from n i e fits h = copy-end d (part d from n) x to i e (h ∙ sym (length_part d from n fits))
+pub move_end : (d x : List ℕ) (to from n i : ℕ) → x ≡ paste d to (part d from n) i → from + n ≤ length d → i ≡ n → x ≡ splice d to (part d from n)
+move_end d x to from n i e fits h = copy_end d (part d from n) x to i e (h ∙ sym (length_part d from n fits))

@@ -25,27 +25,27 @@ same_more a b i ha hb = rw add-one (sym (more a b i ha hb))
         ∙ sym (and_assoc (eqb x y) (same (take i xs) (take i ys)) (eqb (get_or xs i 0) (get_or ys i 0)))
 
 -- lists of other lengths are not the same
-pub same-apart : (a b : List ℕ) → (length a ≡ length b → ⊥) → same a b ≡ false
+pub same_apart : (a b : List ℕ) → (length a ≡ length b → ⊥) → same a b ≡ false
 unfolding same
-same-apart [] [] h = absurd (h refl)
-same-apart [] (y ∷ ys) h = refl
-same-apart (x ∷ xs) [] h = refl
-same-apart (x ∷ xs) (y ∷ ys) h = ap (λ (z : Bool). eqb x y && z) (same-apart xs ys (λ e. h (ap suc e))) ∙ and-false (eqb x y)
+same_apart [] [] h = absurd (h refl)
+same_apart [] (y ∷ ys) h = refl
+same_apart (x ∷ xs) [] h = refl
+same_apart (x ∷ xs) (y ∷ ys) h = ap (λ (z : Bool). eqb x y && z) (same_apart xs ys (λ e. h (ap suc e))) ∙ and-false (eqb x y)
 
 -- the same: equal
-pub same-eq : (a b : List ℕ) → same a b ≡ true → a ≡ b
+pub same_eq : (a b : List ℕ) → same a b ≡ true → a ≡ b
 unfolding same
-same-eq [] [] h = refl
-same-eq [] (y ∷ ys) h = absurd (false≢true h)
-same-eq (x ∷ xs) [] h = absurd (false≢true h)
-same-eq (x ∷ xs) (y ∷ ys) h =
+same_eq [] [] h = refl
+same_eq [] (y ∷ ys) h = absurd (false≢true h)
+same_eq (x ∷ xs) [] h = absurd (false≢true h)
+same_eq (x ∷ xs) (y ∷ ys) h =
     let p = and_both (eqb x y) (same xs ys) h in
     let e : x ≡ y = eqb-true x y p.0 in
-    let r : xs ≡ ys = same-eq xs ys p.1 in
+    let r : xs ≡ ys = same_eq xs ys p.1 in
     cc
 
 -- equal: the same
-pub eq-same : (a : List ℕ) → same a a ≡ true
+pub eq_same : (a : List ℕ) → same a a ≡ true
 unfolding same
-eq-same [] = refl
-eq-same (x ∷ xs) = rw (eq-eqb x x refl) (eq-same xs)
+eq_same [] = refl
+eq_same (x ∷ xs) = rw (eq-eqb x x refl) (eq_same xs)

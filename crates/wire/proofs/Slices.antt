@@ -10,48 +10,48 @@ use lib.ListN.{length, take, drop, set, replicate, take-append-drop, length-take
 use lib.Seq.{take_all, ext_get_or}
 use borrow.Author.Tests.{ltb-true, ltb-false}
 use Rattle.wire.specs.Parts.{part, splice}
-use Rattle.wire.proofs.Parts.{part-is, part_cut, length_part, get_d_part, length-splice, stores-splice, splice-join}
+use Rattle.wire.proofs.Parts.{part_is, part_cut, length_part, get_d_part, length_splice, stores_splice, splice_join}
 
 module _ {A : Type 0} where
   -- the slice of n elements from place o on
   pub slice_is : (l : List A) (o n : ℕ) → take (o + n - o) (drop o l) ≡ part l o n
   slice_is l o n =
       let e : o + n - o ≡ n = omega arith in
-      ap (λ (k : ℕ). take k (drop o l)) e ∙ part-is l o n
+      ap (λ (k : ℕ). take k (drop o l)) e ∙ part_is l o n
 
   -- the slice from place o to the end is a part that runs past the end
-  pub slice-to-end : (l : List A) (o n : ℕ) → length l ≤ o + n → take (length l - o) (drop o l) ≡ part l o n
-  slice-to-end l o n h = take_all (length l - o) (drop o l) (omega (arith, length-drop o l)) ∙ sym (part_cut l o n h)
+  pub slice_to_end : (l : List A) (o n : ℕ) → length l ≤ o + n → take (length l - o) (drop o l) ≡ part l o n
+  slice_to_end l o n h = take_all (length l - o) (drop o l) (omega (arith, length-drop o l)) ∙ sym (part_cut l o n h)
 
   -- nothing stands past the end
-  pub part-past : (l : List A) (o n : ℕ) → length l ≤ o → part l o n ≡ []
-  part-past l o n h = part_cut l o n (omega arith) ∙ drop_of_length-le l {i = o} h
+  pub part_past : (l : List A) (o n : ℕ) → length l ≤ o → part l o n ≡ []
+  part_past l o n h = part_cut l o n (omega arith) ∙ drop_of_length-le l {i = o} h
 
   -- a part is as long as what is there
-  pub length-part-min : (l : List A) (o n : ℕ) → length (part l o n) ≡ min n (length l - o)
+  pub length_part_min : (l : List A) (o n : ℕ) → length (part l o n) ≡ min n (length l - o)
   unfolding part
-  length-part-min l o n = length-take n (drop o l) ∙ ap (min n) (length-drop o l)
+  length_part_min l o n = length-take n (drop o l) ∙ ap (min n) (length-drop o l)
 
   -- a part of elements that are all the same
-  pub part-alike : (x : A) (m o n : ℕ) → o + n ≤ m → part (replicate m x) o n ≡ replicate n x
-  part-alike x m o n h =
+  pub part_alike : (x : A) (m o n : ℕ) → o + n ≤ m → part (replicate m x) o n ≡ replicate n x
+  part_alike x m o n h =
       let lp : length (part (replicate m x) o n) ≡ n = length_part (replicate m x) o n (omega (arith, length-replicate m x)) in
       ext_get_or x (part (replicate m x) o n) (replicate n x) (lp ∙ sym (length-replicate n x))
       (λ i hi. get_d_part (replicate m x) o n i x (omega arith) ∙ get_or-replicate m (o + i) x x (omega arith) ∙ sym (get_or-replicate n i x x (omega arith)))
 
   -- nothing put
-  pub splice-none : (l : List A) (o : ℕ) → splice l o [] ≡ l
+  pub splice_none : (l : List A) (o : ℕ) → splice l o [] ≡ l
   unfolding splice
-  splice-none l o =
+  splice_none l o =
       ap (λ (z : List A). z ++ drop (o + 0) l) (append-nil (take o l))
       ∙ ap (λ (k : ℕ). take o l ++ drop k l) (add-zero o)
       ∙ take-append-drop o l
 
   -- one more put after what was put
-  pub splice-more : (l : List A) (o : ℕ) (v : List A) (x : A) → o + length v < length l → set (splice l o v) (o + length v) x ≡ splice l o (v ++ (x ∷ []))
-  splice-more l o v x h =
-      let e : length (splice l o v) ≡ length l = length-splice l o v (omega arith) in
-      stores-splice (splice l o v) (o + length v) x [] (omega arith) ∙ splice-join l o v (x ∷ []) (omega arith)
+  pub splice_more : (l : List A) (o : ℕ) (v : List A) (x : A) → o + length v < length l → set (splice l o v) (o + length v) x ≡ splice l o (v ++ (x ∷ []))
+  splice_more l o v x h =
+      let e : length (splice l o v) ≡ length l = length_splice l o v (omega arith) in
+      stores_splice (splice l o v) (o + length v) x [] (omega arith) ∙ splice_join l o v (x ∷ []) (omega arith)
 
   -- cut to what is there
   pub take_min : (n : ℕ) (l : List A) → take (min n (length l)) l ≡ take n l
@@ -79,9 +79,9 @@ module _ {A : Type 0} where
           let g : length l ≤ min o (length l) = omega arith in
           drop_of_length-le l g ∙ sym (drop_of_length-le l h)
 
-  pub part-cut-to : (l : List A) (o n f k : ℕ) → f ≡ min o (length l) → k ≡ min n (length l - f) → take (f + k - f) (drop f l) ≡ part l o n
+  pub part_cut_to : (l : List A) (o n f k : ℕ) → f ≡ min o (length l) → k ≡ min n (length l - f) → take (f + k - f) (drop f l) ≡ part l o n
   unfolding part
-  part-cut-to l o n f k p q =
+  part_cut_to l o n f k p q =
       let w : f + k - f ≡ k = omega arith in
       let r : k ≡ min n (length (drop f l)) = q ∙ ap (min n) (sym (length-drop f l)) in
       ap (λ (i : ℕ). take i (drop f l)) (w ∙ r)

@@ -16,18 +16,18 @@ unfoldable pub big : List ℕ → ℕ
 big bs = little (reverse bs)
 
 -- the n low bytes of x, the low byte first
-unfoldable pub littleBytes : ℕ → ℕ → List ℕ
-littleBytes zero x = []
-littleBytes (suc n) x = x % 256 ∷ littleBytes n (x / 256)
+unfoldable pub little_bytes : ℕ → ℕ → List ℕ
+little_bytes zero x = []
+little_bytes (suc n) x = x % 256 ∷ little_bytes n (x / 256)
 
 -- the n low bytes of x, the high byte first
-unfoldable pub bigBytes : ℕ → ℕ → List ℕ
-bigBytes n x = reverse (littleBytes n x)
+unfoldable pub big_bytes : ℕ → ℕ → List ℕ
+big_bytes n x = reverse (little_bytes n x)
 
 -- the number of n bytes at place o of l, the low byte first
-unfoldable pub littleAt : ℕ → List ℕ → ℕ → ℕ
-littleAt n l o = little (part l o n)
+unfoldable pub little_at : ℕ → List ℕ → ℕ → ℕ
+little_at n l o = little (part l o n)
 
 -- the number of n bytes at place o of l, the high byte first
-unfoldable pub bigAt : ℕ → List ℕ → ℕ → ℕ
-bigAt n l o = big (part l o n)
+unfoldable pub big_at : ℕ → List ℕ → ℕ → ℕ
+big_at n l o = big (part l o n)

@@ -1,7 +1,7 @@
 // Numbers at a place of a slice, in two, four or eight bytes: read, as nom's `be_u16` and its like, and put, as `put_u16` of bytes and its like.
 ghost use Rattle.std.specs.Prelude.{◌≡◌, ◌+◌, ◌<◌, ◌≤◌, length};
 ghost use Rattle.wire.specs.Parts.{splice};
-ghost use Rattle.wire.specs.Numbers.{littleAt, bigAt, littleBytes, bigBytes};
+ghost use Rattle.wire.specs.Numbers.{little_at, big_at, little_bytes, big_bytes};
 
 fn wide16(x: u8) -> u16
     ensures { (result ≡ x) × (result < 256) }
@@ -24,14 +24,14 @@ fn wide64(x: u32) -> u64
 // The number at a place, its high byte first.
 pub fn be_u16(b: &[u8], at: usize) -> u16
     requires { at + 2 ≤ length b.now }
-    ensures { result ≡ bigAt 2 b.now at }
+    ensures { result ≡ big_at 2 b.now at }
 {
     wide16(b[at]) * 256 + wide16(b[at + 1])
 }
 
 pub fn be_u32(b: &[u8], at: usize) -> u32
     requires { at + 4 ≤ length b.now }
-    ensures { result ≡ bigAt 4 b.now at }
+    ensures { result ≡ big_at 4 b.now at }
 {
     wide32(b[at]) * 16777216
         + wide32(b[at + 1]) * 65536
@@ -41,7 +41,7 @@ pub fn be_u32(b: &[u8], at: usize) -> u32
 
 pub fn be_u64(b: &[u8], at: usize) -> u64
     requires { at + 8 ≤ length b.now }
-    ensures { result ≡ bigAt 8 b.now at }
+    ensures { result ≡ big_at 8 b.now at }
 {
     wide64(be_u32(b, at)) * 4294967296 + wide64(be_u32(b, at + 4))
 }
@@ -49,14 +49,14 @@ pub fn be_u64(b: &[u8], at: usize) -> u64
 // The number at a place, its low byte first.
 pub fn le_u16(b: &[u8], at: usize) -> u16
     requires { at + 2 ≤ length b.now }
-    ensures { result ≡ littleAt 2 b.now at }
+    ensures { result ≡ little_at 2 b.now at }
 {
     wide16(b[at]) + wide16(b[at + 1]) * 256
 }
 
 pub fn le_u32(b: &[u8], at: usize) -> u32
     requires { at + 4 ≤ length b.now }
-    ensures { result ≡ littleAt 4 b.now at }
+    ensures { result ≡ little_at 4 b.now at }
 {
     wide32(b[at])
         + wide32(b[at + 1]) * 256
@@ -66,7 +66,7 @@ pub fn le_u32(b: &[u8], at: usize) -> u32
 
 pub fn le_u64(b: &[u8], at: usize) -> u64
     requires { at + 8 ≤ length b.now }
-    ensures { result ≡ littleAt 8 b.now at }
+    ensures { result ≡ little_at 8 b.now at }
 {
     wide64(le_u32(b, at)) + wide64(le_u32(b, at + 4)) * 4294967296
 }
@@ -74,7 +74,7 @@ pub fn le_u64(b: &[u8], at: usize) -> u64
 // A number put at a place, its high byte first; every other byte stays.
 pub fn put_u16(b: &mut [u8], at: usize, x: u16)
     requires { at + 2 ≤ length b.old }
-    ensures { b.new ≡ splice b.old at (bigBytes 2 x) }
+    ensures { b.new ≡ splice b.old at (big_bytes 2 x) }
 {
     b[at] = (x / 256) as u8;
     b[at + 1] = (x % 256) as u8;
@@ -82,7 +82,7 @@ pub fn put_u16(b: &mut [u8], at: usize, x: u16)
 
 pub fn put_u32(b: &mut [u8], at: usize, x: u32)
     requires { at + 4 ≤ length b.old }
-    ensures { b.new ≡ splice b.old at (bigBytes 4 x) }
+    ensures { b.new ≡ splice b.old at (big_bytes 4 x) }
 {
     b[at] = (x / 16777216) as u8;
     b[at + 1] = (x / 65536 % 256) as u8;
@@ -92,7 +92,7 @@ pub fn put_u32(b: &mut [u8], at: usize, x: u32)
 
 pub fn put_u64(b: &mut [u8], at: usize, x: u64)
     requires { at + 8 ≤ length b.old }
-    ensures { b.new ≡ splice b.old at (bigBytes 8 x) }
+    ensures { b.new ≡ splice b.old at (big_bytes 8 x) }
 {
     put_u32(b, at, (x / 4294967296) as u32);
     put_u32(b, at + 4, (x % 4294967296) as u32);
@@ -101,7 +101,7 @@ pub fn put_u64(b: &mut [u8], at: usize, x: u64)
 // A number put at a place, its low byte first; every other byte stays.
 pub fn put_u16_le(b: &mut [u8], at: usize, x: u16)
     requires { at + 2 ≤ length b.old }
-    ensures { b.new ≡ splice b.old at (littleBytes 2 x) }
+    ensures { b.new ≡ splice b.old at (little_bytes 2 x) }
 {
     b[at] = (x % 256) as u8;
     b[at + 1] = (x / 256) as u8;
@@ -109,7 +109,7 @@ pub fn put_u16_le(b: &mut [u8], at: usize, x: u16)
 
 pub fn put_u32_le(b: &mut [u8], at: usize, x: u32)
     requires { at + 4 ≤ length b.old }
-    ensures { b.new ≡ splice b.old at (littleBytes 4 x) }
+    ensures { b.new ≡ splice b.old at (little_bytes 4 x) }
 {
     b[at] = (x % 256) as u8;
     b[at + 1] = (x / 256 % 256) as u8;
@@ -119,7 +119,7 @@ pub fn put_u32_le(b: &mut [u8], at: usize, x: u32)
 
 pub fn put_u64_le(b: &mut [u8], at: usize, x: u64)
     requires { at + 8 ≤ length b.old }
-    ensures { b.new ≡ splice b.old at (littleBytes 8 x) }
+    ensures { b.new ≡ splice b.old at (little_bytes 8 x) }
 {
     put_u32_le(b, at, (x % 4294967296) as u32);
     put_u32_le(b, at + 4, (x / 4294967296) as u32);

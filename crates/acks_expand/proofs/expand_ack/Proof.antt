@@ -1,7 +1,7 @@
 use mathlib.Core.Path.{ap, ◌∙◌}
 use lib.ListN.{length}
-use Rattle.acks.specs.Expanding.{expandOf, listAfter}
-use Rattle.wire.proofs.Slices.{part-cut-to}
+use Rattle.acks.specs.Expanding.{expand_of, list_after}
+use Rattle.wire.proofs.Slices.{part_cut_to}
 use borrow.Author.Rules.{rules}
 use Rattle.acks_expand.proofs.expand_ack.Statement.{statement}
 use Rattle.acks_expand.proofs.expand_ack.Tie as tie
@@ -38,9 +38,9 @@ returns c =
     let a = c.before.before.before.before.before.before.before.before.before.args in
     let f = c.before.before.before.before.before.before.shorter in
     let k = c.before.before.before.before.before.shorter2 in
-    let e = part-cut-to a.payload.now a.pairs.start a.pairs.len f.result k.result f.ensures k.ensures in (
-      c.before.before.expand.ensures.0 ∙ ap (λ ps. expandOf a.through a.count ps (length a.list.now)) e,
-      c.before.before.expand.ensures.1 ∙ ap (λ ps. listAfter a.through a.count ps a.list.now) e,
+    let e = part_cut_to a.payload.now a.pairs.start a.pairs.len f.result k.result f.ensures k.ensures in (
+      c.before.before.expand.ensures.0 ∙ ap (λ ps. expand_of a.through a.count ps (length a.list.now)) e,
+      c.before.before.expand.ensures.1 ∙ ap (λ ps. list_after a.through a.count ps a.list.now) e,
     )
 
 pub expand-ack-spec : {M : Type 1} → statement M

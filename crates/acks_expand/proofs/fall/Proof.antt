@@ -5,8 +5,8 @@ use borrow.Author.Rules.{rules}
 use native.Mathlib.Omega.{arith}
 use Rattle.acks.specs.Window.{falling}
 use Rattle.wire.specs.Parts.{splice}
-use Rattle.wire.proofs.Slices.{splice-none}
-use Rattle.acks.proofs.Filling.{falls-more}
+use Rattle.wire.proofs.Slices.{splice_none}
+use Rattle.acks.proofs.Filling.{falls_more}
 use Rattle.acks_expand.proofs.fall.Statement.{statement}
 use Rattle.acks_expand.proofs.fall.Tie as tie
 
@@ -20,7 +20,7 @@ loop-holds : tie.Need-loop-init invariant-loop decreases-loop
 unfolding falling
 loop-holds c =
     let a = c.args in
-    (omega arith, sym (splice-none a.list.now a.at), refl)
+    (omega arith, sym (splice_none a.list.now a.at), refl)
 
 cast-p : tie.Need-overflow-cast-p invariant-loop decreases-loop
 cast-p c = search rules
@@ -51,7 +51,7 @@ loop-again c =
     let a = c.before.before.args in
     let i = c.before.loop in (
       omega arith,
-      rw i.invariant.1 (falls-more a.list.now a.at (a.above - 1) i.j (omega arith)),
+      rw i.invariant.1 (falls_more a.list.now a.at (a.above - 1) i.j (omega arith)),
       length-set i.list (a.at + i.j) (a.above - 1 - i.j) ∙ i.invariant.2,
     )
 

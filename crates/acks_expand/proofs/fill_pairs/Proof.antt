@@ -3,7 +3,7 @@ use mathlib.Core.Path.{◌≡◌}
 use lib.ListN.{length, get_or}
 use borrow.Author.Rules.{rules}
 use native.Mathlib.Omega.{arith}
-use Rattle.acks.proofs.Filling.{Wrote, wrote-start, wrote-step, wrote-end, spends, room-left}
+use Rattle.acks.proofs.Filling.{Wrote, wrote_start, wrote-step, wrote_end, spends, room_left_lem}
 use Rattle.acks_expand.proofs.fill_pairs.Statement.{statement}
 use Rattle.acks_expand.proofs.fill_pairs.Tie as tie
 
@@ -30,14 +30,14 @@ roomy d =
     let i = d.before.before.before.loop in
     omega (
       arith,
-      room-left a.pairs.now a.list.now a.place a.top d.before.before.before.before.before.before.requires.1 i.list i.at i.above i.i i.invariant (omega arith),
+      room_left_lem a.pairs.now a.list.now a.place a.top d.before.before.before.before.before.before.requires.1 i.list i.at i.above i.i i.invariant (omega arith),
       d.byte2.ensures.0,
     )
 
 loop-holds : tie.Need-loop-init invariant-loop decreases-loop
 loop-holds c =
     let a = c.before.before.args in
-    wrote-start a.pairs.now a.list.now a.place a.top c.before.before.requires.1 c.before.before.requires.0
+    wrote_start a.pairs.now a.list.now a.place a.top c.before.before.requires.1 c.before.before.requires.0
 
 add-loop : tie.Need-overflow-add-loop invariant-loop decreases-loop
 add-loop c = search rules
@@ -91,7 +91,7 @@ returns : tie.Need-returns invariant-loop decreases-loop
 returns c =
     let a = c.before.before.before.before.args in
     let i = c.before.loop in
-    wrote-end a.pairs.now a.list.now a.place a.top c.before.before.before.before.requires.1 i.list i.at i.above i.i i.invariant (omega arith)
+    wrote_end a.pairs.now a.list.now a.place a.top c.before.before.before.before.requires.1 i.list i.at i.above i.i i.invariant (omega arith)
 
 pub fill-pairs-spec : {M : Type 1} → statement M
 fill-pairs-spec =

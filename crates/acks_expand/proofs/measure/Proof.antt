@@ -2,7 +2,7 @@ use Prim.Native.Nat.{◌-◌}
 use lib.ListN.{length}
 use borrow.Author.Rules.{rules}
 use native.Mathlib.Omega.{arith}
-use Rattle.acks.proofs.Measuring.{Summed, summed-start, summed-step, measured, beyond}
+use Rattle.acks.proofs.Measuring.{Summed, summed_start, summed_step, measured, beyond}
 use Rattle.acks_expand.proofs.measure.Statement.{statement}
 use Rattle.acks_expand.proofs.measure.Tie as tie
 
@@ -18,7 +18,7 @@ add-names c = search rules
 loop-holds : tie.Need-loop-init invariant-loop decreases-loop
 loop-holds c =
     let a = c.before.args in
-    summed-start a.through a.count a.pairs.now c.before.ranges.count.fits
+    summed_start a.through a.count a.pairs.now c.before.ranges.count.fits
 
 add-loop : tie.Need-overflow-add-loop invariant-loop decreases-loop
 add-loop c = search rules
@@ -66,7 +66,7 @@ loop-again : tie.Need-loop-preserved invariant-loop decreases-loop
 loop-again c =
     let a = c.before.before.before.before.before.before.args in
     let i = c.before.before.before.before.loop in
-    summed-step a.through a.count a.pairs.now i.sum i.names i.i c.before.byte.result c.byte2.result i.invariant (omega arith)
+    summed_step a.through a.count a.pairs.now i.sum i.names i.i c.before.byte.result c.byte2.result i.invariant (omega arith)
     (omega arith) c.before.byte.ensures.0 c.before.byte.ensures.1 c.byte2.ensures.0 c.byte2.ensures.1
 
 cast-t18 : tie.Need-overflow-cast-t18 invariant-loop decreases-loop

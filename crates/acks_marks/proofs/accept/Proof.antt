@@ -1,6 +1,6 @@
 use native.Mathlib.Omega.{arith}
 use lib.ListN.{length-set}
-use Rattle.acks.specs.Tracking.{marksAfter}
+use Rattle.acks.specs.Tracking.{marks_after}
 use borrow.Author.Rules.{rules}
 use Rattle.acks_marks.proofs.accept.Statement.{statement}
 use Rattle.acks_marks.proofs.accept.Tie as tie
@@ -33,7 +33,7 @@ same_length : tie.Need-same-length
 same_length c = simp length-set (simp length-set at c.before.before.clear.auto.0)
 
 returns : tie.Need-returns
-unfolding marksAfter
+unfolding marks_after
 returns c = simp (c.before.before.clear.ensures, c.before.before.before.gap.ensures)
 
 pub accept-spec : {M : Type 1} → statement M

@@ -3,8 +3,8 @@ use Prim.Native.Nat.{◌+◌, ◌≤◌, ◌<◌}
 use mathlib.Core.Path.{◌≡◌, sym, ◌∙◌}
 use mathlib.Core.Bool.{true, false}
 use borrow.Author.Tests.{lt-leb, le-leb, le-ltb, lt-ltb}
-use Rattle.acks.specs.History.{answerTo}
-use Rattle.acks.specs.Tracking.{isDuplicate}
+use Rattle.acks.specs.History.{answer_to}
+use Rattle.acks.specs.Tracking.{is_duplicate}
 use borrow.Author.Rules.{rules}
 use Rattle.acks_marks.proofs.answer.Statement.{statement}
 use Rattle.acks_marks.proofs.answer.Tie as tie
@@ -13,7 +13,7 @@ add-if1 : tie.Need-overflow-add-if1
 add-if1 c = search rules
 
 returns : tie.Need-returns
-unfolding answerTo
+unfolding answer_to
 returns c =
     let a = c.before.before.args in
     let far : a.top + 255 < a.n = omega arith in
@@ -23,7 +23,7 @@ add-if2 : tie.Need-overflow-add-if2
 add-if2 c = search rules
 
 returns-2 : tie.Need-returns-2
-unfolding answerTo
+unfolding answer_to
 returns-2 c =
     let a = c.before.before.before.args in
     let near : a.n ≤ a.top + 255 = omega arith in
@@ -34,21 +34,21 @@ holds-requires : tie.Need-holds-requires
 holds-requires c κs = search rules
 
 returns-3 : tie.Need-returns-3
-unfolding answerTo
+unfolding answer_to
 returns-3 c =
     let a = c.before.before.before.before.before.args in
     let near : a.n ≤ a.top + 255 = omega arith in
     let fresh : a.top < a.n + 255 = omega arith in
-    let e : isDuplicate a.top a.m.now a.n ≡ true = sym c.before.holds.ensures ∙ c.if3.true in
+    let e : is_duplicate a.top a.m.now a.n ≡ true = sym c.before.holds.ensures ∙ c.if3.true in
     simp (le-ltb _ _ near, lt-leb _ _ fresh, e)
 
 returns-4 : tie.Need-returns-4
-unfolding answerTo
+unfolding answer_to
 returns-4 c =
     let a = c.before.before.before.before.before.args in
     let near : a.n ≤ a.top + 255 = omega arith in
     let fresh : a.top < a.n + 255 = omega arith in
-    let e : isDuplicate a.top a.m.now a.n ≡ false = sym c.before.holds.ensures ∙ c.if3.false in
+    let e : is_duplicate a.top a.m.now a.n ≡ false = sym c.before.holds.ensures ∙ c.if3.false in
     simp (le-ltb _ _ near, lt-leb _ _ fresh, e)
 
 pub answer-spec : {M : Type 1} → statement M

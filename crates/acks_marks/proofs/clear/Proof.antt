@@ -4,18 +4,18 @@ use native.Mathlib.Omega.{arith}
 use native.Mathlib.Numerals.{add-one}
 use borrow.Author.Rules.{rules}
 use lib.ListN.{length, set, length-set}
-use Rattle.acks.specs.Tracking.{clearUp}
+use Rattle.acks.specs.Tracking.{clear_up}
 use Rattle.acks_marks.proofs.clear.Statement.{statement}
 use Rattle.acks_marks.proofs.clear.Tie as tie
 
 abbrev invariant-loop : tie.invariant-loop
-invariant-loop m₀ a d k₀ m k = (k ≤ d) × (m ≡ clearUp m₀ a k) × (length m ≡ length m₀)
+invariant-loop m₀ a d k₀ m k = (k ≤ d) × (m ≡ clear_up m₀ a k) × (length m ≡ length m₀)
 
 abbrev decreases-loop : tie.decreases-loop
 decreases-loop m₀ a d k₀ m k = d - k
 
 loop-holds : tie.Need-loop-init invariant-loop decreases-loop
-unfolding clearUp
+unfolding clear_up
 loop-holds c = (omega arith, refl, refl)
 
 add-i : tie.Need-overflow-add-i invariant-loop decreases-loop
@@ -31,7 +31,7 @@ loop-less : tie.Need-loop-smaller invariant-loop decreases-loop
 loop-less c = search rules
 
 loop-again : tie.Need-loop-preserved invariant-loop decreases-loop
-unfolding clearUp
+unfolding clear_up
 loop-again c =
     let a = c.before.before.args in
     let i = c.before.loop in (
@@ -48,7 +48,7 @@ returns c =
     let a = c.before.before.args in
     let i = c.before.loop in
     let e : i.k ≡ a.d = omega arith in
-    i.invariant.1 ∙ ap (clearUp a.m.now a.a) e
+    i.invariant.1 ∙ ap (clear_up a.m.now a.a) e
 
 pub clear_spec : {M : Type 1} → statement M
 clear_spec =

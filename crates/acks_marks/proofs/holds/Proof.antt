@@ -1,18 +1,18 @@
 use Prim.Native.Nat.{◌≤◌, ◌<◌, ◌+◌}
 use native.Mathlib.Omega.{arith}
 use borrow.Author.Tests.{lt-leb, le-leb, le-ltb, lt-ltb}
-use Rattle.acks.specs.Window.{inWindow}
-use Rattle.acks.specs.Tracking.{isDuplicate}
+use Rattle.acks.specs.Window.{in_window}
+use Rattle.acks.specs.Tracking.{is_duplicate}
 use borrow.Author.Rules.{rules}
 use Rattle.acks_marks.proofs.holds.Statement.{statement}
 use Rattle.acks_marks.proofs.holds.Tie as tie
 
 returns : tie.Need-returns
-unfolding isDuplicate inWindow
+unfolding is_duplicate in_window
 returns c = simp (lt-leb _ _ c.if1.true)
 
 returns-2 : tie.Need-returns-2
-unfolding isDuplicate inWindow
+unfolding is_duplicate in_window
 returns-2 c =
     let a = c.before.before.before.args in
     let h : a.n ≤ a.top = omega arith in
@@ -23,7 +23,7 @@ marked-requires : tie.Need-marked-requires
 marked-requires c κs = search rules
 
 returns-3 : tie.Need-returns-3
-unfolding isDuplicate inWindow
+unfolding is_duplicate in_window
 returns-3 c =
     let a = c.before.before.before.before.args in
     let h : a.n ≤ a.top = omega arith in

@@ -3,7 +3,7 @@ use Prim.Native.Nat.{◌≤◌, ◌-◌}
 use native.Mathlib.Omega.{arith}
 use borrow.Author.Rules.{rules}
 use Rattle.acks.specs.Naming.{StandsAt, RunOf}
-use Rattle.acks.proofs.Naming.{stands_up, run-above, run_past, run-named, run-skipped, pair-below}
+use Rattle.acks.proofs.Naming.{stands_up, run_above, run_past, run_named, run_skipped, pair_below}
 use Rattle.acks_naming.proofs.climb.Statement.{statement}
 use Rattle.acks_naming.proofs.climb.Tie as tie
 
@@ -35,7 +35,7 @@ add-t16 : tie.Need-overflow-add-t16 invariant-loop decreases-loop
 add-t16 c =
     let a = c.before.before.before.before.before.before.args in
     let i = c.before.before.before.before.loop in
-    omega (arith, pair-below a.through a.count a.pairs.now c.before.before.before.before.before.before.requires.0 i.p (i.p - 2) i.above c.before.byte2.result c.before.before.byte.result i.invariant.0 (omega arith) c.before.before.byte.ensures.0 c.before.byte2.ensures.0)
+    omega (arith, pair_below a.through a.count a.pairs.now c.before.before.before.before.before.before.requires.0 i.p (i.p - 2) i.above c.before.byte2.result c.before.before.byte.result i.invariant.0 (omega arith) c.before.before.byte.ensures.0 c.before.byte2.ensures.0)
 
 sub-t17 : tie.Need-overflow-sub-t17 invariant-loop decreases-loop
 sub-t17 c = search rules
@@ -44,7 +44,7 @@ returns : tie.Need-returns invariant-loop decreases-loop
 returns c =
     let a = c.before.before.before.before.before.before.args in
     let i = c.before.before.before.before.loop in
-    let r = run-named a.through a.count a.pairs.now c.before.before.before.before.before.before.requires.0 i.p (i.p - 2) i.above c.before.byte2.result c.before.before.byte.result i.invariant.0 (omega arith) c.before.before.byte.ensures.0 c.before.byte2.ensures.0 (omega arith) in
+    let r = run_named a.through a.count a.pairs.now c.before.before.before.before.before.before.requires.0 i.p (i.p - 2) i.above c.before.byte2.result c.before.before.byte.result i.invariant.0 (omega arith) c.before.before.byte.ensures.0 c.before.byte2.ensures.0 (omega arith) in
     (sym (r a.x (omega arith) (omega arith)), i.invariant.0, r)
 
 sub-if2 : tie.Need-overflow-sub-if2 invariant-loop decreases-loop
@@ -60,7 +60,7 @@ add-over-2 : tie.Need-overflow-add-over-2 invariant-loop decreases-loop
 add-over-2 c =
     let a = c.before.before.before.before.before.before.before.args in
     let i = c.before.before.before.before.before.loop in
-    omega (arith, pair-below a.through a.count a.pairs.now c.before.before.before.before.before.before.before.requires.0 i.p (i.p - 2) i.above c.before.before.byte2.result c.before.before.before.byte.result i.invariant.0 (omega arith) c.before.before.before.byte.ensures.0 c.before.before.byte2.ensures.0)
+    omega (arith, pair_below a.through a.count a.pairs.now c.before.before.before.before.before.before.before.requires.0 i.p (i.p - 2) i.above c.before.before.byte2.result c.before.before.before.byte.result i.invariant.0 (omega arith) c.before.before.before.byte.ensures.0 c.before.before.byte2.ensures.0)
 
 add-t19 : tie.Need-overflow-add-t19 invariant-loop decreases-loop
 add-t19 c = search rules
@@ -72,7 +72,7 @@ returns-2 : tie.Need-returns-2 invariant-loop decreases-loop
 returns-2 c =
     let a = c.before.before.before.before.before.before.before.args in
     let i = c.before.before.before.before.before.loop in
-    let r = run-skipped a.through a.count a.pairs.now c.before.before.before.before.before.before.before.requires.0 i.p (i.p - 2) i.above c.before.before.byte2.result c.before.before.before.byte.result i.invariant.0 (omega arith) c.before.before.before.byte.ensures.0 c.before.before.byte2.ensures.0 (omega arith) in
+    let r = run_skipped a.through a.count a.pairs.now c.before.before.before.before.before.before.before.requires.0 i.p (i.p - 2) i.above c.before.before.byte2.result c.before.before.before.byte.result i.invariant.0 (omega arith) c.before.before.before.byte.ensures.0 c.before.before.byte2.ensures.0 (omega arith) in
     (sym (r a.x (omega arith) (omega arith)), stands_up a.through a.count a.pairs.now i.p (i.p - 2) i.above c.before.before.byte2.result c.before.before.before.byte.result i.invariant.0 (omega arith) c.before.before.before.byte.ensures.0 c.before.before.byte2.ensures.0, r)
 
 add-above : tie.Need-overflow-add-above invariant-loop decreases-loop
@@ -94,7 +94,7 @@ returns-3 : tie.Need-returns-3 invariant-loop decreases-loop
 returns-3 c =
     let a = c.before.before.before.before.args in
     let i = c.before.before.loop in
-    let r = run-above a.through a.count a.pairs.now c.before.before.before.before.requires.0 i.p i.above i.invariant.0 (omega arith) in
+    let r = run_above a.through a.count a.pairs.now c.before.before.before.before.requires.0 i.p i.above i.invariant.0 (omega arith) in
     (sym (r a.x i.invariant.1 (omega arith)), i.invariant.0, r)
 
 add-t22 : tie.Need-overflow-add-t22 invariant-loop decreases-loop

@@ -1,4 +1,4 @@
-use Rattle.acks.specs.Reporting.{ackInfo}
+use Rattle.acks.specs.Reporting.{ack_info}
 use borrow.Author.Rules.{rules}
 use Rattle.acks_reports.proofs.report.Statement.{statement}
 use Rattle.acks_reports.proofs.report.Tie as tie
@@ -10,7 +10,7 @@ report-of-requires : tie.Need-report-of-requires
 report-of-requires c κs = search rules
 
 returns : tie.Need-returns
-unfolding ackInfo
+unfolding ack_info
 returns c = c.report-of.ensures
 
 pub report-spec : {M : Type 1} → statement M

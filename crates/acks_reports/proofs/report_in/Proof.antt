@@ -2,11 +2,11 @@ use native.Mathlib.Omega.{arith}
 use mathlib.Core.Path.{ap₂, ◌∙◌}
 use mathlib.Core.List.{List}
 use Prim.Native.Nat.{ℕ}
-use Rattle.wire.proofs.Parts.{part-is}
+use Rattle.wire.proofs.Parts.{part_is}
 use Rattle.acks.specs.Tracking.{mark}
-use Rattle.acks.specs.Reporting.{reportOf, ackInfo}
-use Rattle.acks.specs.Recorded.{trackerAt, reportThere}
-use Rattle.acks.proofs.Recording.{is-short, is-long}
+use Rattle.acks.specs.Reporting.{report_of, ack_info}
+use Rattle.acks.specs.Recorded.{tracker_at, report_there}
+use Rattle.acks.proofs.Recording.{is_short_lem, is_long}
 use borrow.Author.Rules.{rules}
 use Rattle.acks_reports.proofs.report_in.Statement.{statement}
 use Rattle.acks_reports.proofs.report_in.Tie as tie
@@ -15,8 +15,8 @@ refused-requires : tie.Need-refused-requires
 refused-requires c κs = search rules
 
 returns : tie.Need-returns
-unfolding reportThere
-returns c = rw (is-short c.before.before.before.args.tracker.now (omega arith), c.refused.ensures)
+unfolding report_there
+returns c = rw (is_short_lem c.before.before.before.args.tracker.now (omega arith), c.refused.ensures)
 
 le-u32-requires : tie.Need-le-u32-requires
 le-u32-requires c κs = search rules
@@ -34,12 +34,12 @@ report-of-requires : tie.Need-report-of-requires
 report-of-requires c κs = search rules
 
 returns-2 : tie.Need-returns-2
-unfolding reportThere ackInfo trackerAt
+unfolding report_there ack_info tracker_at
 returns-2 c =
     let a = c.before.before.before.before.before.args in
-    rw (is-long a.tracker.now (omega arith))
+    rw (is_long a.tracker.now (omega arith))
     (c.report-of.ensures
-    ∙ ap₂ (λ (t : ℕ) (m : List ℕ). reportOf t (mark m)) c.before.before.le-u32.ensures (part-is a.tracker.now 4 255))
+    ∙ ap₂ (λ (t : ℕ) (m : List ℕ). report_of t (mark m)) c.before.before.le-u32.ensures (part_is a.tracker.now 4 255))
 
 pub report-in-spec : {M : Type 1} → statement M
 report-in-spec =

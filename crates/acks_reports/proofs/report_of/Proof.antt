@@ -4,8 +4,8 @@ use mathlib.Core.Bool.{true, false}
 use Prim.Native.Nat.{◌≤◌}
 use borrow.Author.Tests.{not-true, not-false}
 use Rattle.acks.specs.Tracking.{mark}
-use Rattle.acks.specs.Reporting.{reportOfRuns}
-use Rattle.acks.proofs.Pairs.{quiet, leading-view-le, after-count, reported}
+use Rattle.acks.specs.Reporting.{report_of_runs}
+use Rattle.acks.proofs.Pairs.{quiet, leading_view_le, after_count, reported}
 use borrow.Author.Rules.{rules}
 use Rattle.acks_reports.proofs.report_of.Statement.{statement}
 use Rattle.acks_reports.proofs.report_of.Tie as tie
@@ -13,7 +13,7 @@ use Rattle.acks_reports.proofs.report_of.Tie as tie
 count-in : (c : tie.After-run) → c.run.result ≤ c.before.lesser.result
 count-in c =
     let a = c.before.before.before.before.before.args in
-    rw c.run.ensures (leading-view-le _ a.m.now a.top c.before.lesser.result)
+    rw c.run.ensures (leading_view_le _ a.m.now a.top c.before.lesser.result)
 
 marked-requires : tie.Need-marked-requires
 marked-requires c κs = search rules
@@ -45,14 +45,14 @@ pairs-requires c κs =
       omega arith,
       omega (arith, count-in c),
       omega (arith, count-in c),
-      after-count a.m.now a.top c.before.lesser.result c.run.result c.run.ensures,
+      after_count a.m.now a.top c.before.lesser.result c.run.result c.run.ensures,
     )
 
 cast-t11 : tie.Need-overflow-cast-t11
 cast-t11 c = omega (arith, count-in c.before.before)
 
 returns-2 : tie.Need-returns-2
-unfolding reportOfRuns
+unfolding report_of_runs
 returns-2 c =
     let a = c.before.before.before.before.before.before.before.args in
     let e : mark a.m.now a.top ≡ true =

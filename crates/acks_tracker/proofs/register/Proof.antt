@@ -1,6 +1,6 @@
 use mathlib.Core.Path.{◌≡◌, sym, ◌∙◌}
 use borrow.Author.Tests.{ne_eqb}
-use Rattle.acks.specs.Tracking.{registerOf, registerAnswer, acceptOf}
+use Rattle.acks.specs.Tracking.{register_of, register_answer, accept_of}
 use borrow.Author.Rules.{rules}
 use Rattle.acks_tracker.proofs.register.Statement.{statement}
 use Rattle.acks_tracker.proofs.register.Tie as tie
@@ -12,10 +12,10 @@ answer-requires : tie.Need-answer-requires
 answer-requires c κs = search rules
 
 returns : tie.Need-returns
-unfolding registerOf registerAnswer
+unfolding register_of register_answer
 returns c =
     let a = c.before.before.before.before.args in
-    let e : registerAnswer a.t a.n ≡ c.before.answer.result = sym c.before.answer.ensures in
+    let e : register_answer a.t a.n ≡ c.before.answer.result = sym c.before.answer.ensures in
     simp (e, ne_eqb _ _ c.if1.true)
 
 slice-aggregate-accept : tie.Need-slice-aggregate-accept
@@ -28,11 +28,11 @@ larger-requires : tie.Need-larger-requires
 larger-requires c κs = search rules
 
 returns-2 : tie.Need-returns-2
-unfolding registerOf registerAnswer acceptOf
+unfolding register_of register_answer accept_of
 returns-2 c =
     let a = c.before.before.before.before.before.before.before.before.args in
     let r = c.before.before.before.before.before.answer in
-    let e : registerAnswer a.t a.n ≡ 0 = sym r.ensures ∙ c.before.before.before.before.if1.false in
+    let e : register_answer a.t a.n ≡ 0 = sym r.ensures ∙ c.before.before.before.before.if1.false in
     simp (e, c.larger.ensures, c.before.before.accept.ensures)
 
 pub register-spec : {M : Type 1} → statement M

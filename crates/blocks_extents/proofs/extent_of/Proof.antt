@@ -1,8 +1,8 @@
 use mathlib.Core.Path.{sym, ap, ◌∙◌}
 use native.Mathlib.Omega.{arith}
 use Prim.Native.Nat.{◌+◌}
-use Rattle.blocks.specs.Extent.{takenAt, kind_at}
-use Rattle.blocks.proofs.Soundness.{taken-holds}
+use Rattle.blocks.specs.Extent.{taken_at, kind_at}
+use Rattle.blocks.proofs.Soundness.{taken_holds}
 use Rattle.blocks.proofs.Ends.{ended, cut}
 use borrow.Author.Rules.{rules}
 use Rattle.blocks_extents.proofs.extent_of.Statement.{statement}
@@ -42,16 +42,16 @@ add-t14 : tie.Need-overflow-add-t14
 add-t14 c = search rules
 
 add-t15 : tie.Need-overflow-add-t15
-add-t15 c = let a = c.before.before.before.before.before.before.before.before.before.before.args in omega (arith, taken-holds a.payload.now (a.at + 3) c.before.before.before.before.usize-from-u16.result (kind_at a.payload.now a.at) _ (sym c.before.before.before.taken_at.ensures ∙ c.before.count.given.1))
+add-t15 c = let a = c.before.before.before.before.before.before.before.before.before.before.args in omega (arith, taken_holds a.payload.now (a.at + 3) c.before.before.before.before.usize-from-u16.result (kind_at a.payload.now a.at) _ (sym c.before.before.before.taken_at.ensures ∙ c.before.count.given.1))
 
 enum-known-number : tie.Need-enum-known-number
 enum-known-number c = search rules
 
 returns-3 : tie.Need-returns-3
-returns-3 c = let a = c.before.before.before.before.before.before.before.before.before.before.args in ended a.payload.now a.at c.before.before.before.before.before.be-u16.result _ (omega arith) c.before.before.before.before.before.be-u16.ensures (ap (takenAt a.payload.now (a.at + 3) (kind_at a.payload.now a.at)) (sym c.before.before.before.before.usize-from-u16.ensures.0) ∙ sym c.before.before.before.taken_at.ensures ∙ c.before.count.given.1)
+returns-3 c = let a = c.before.before.before.before.before.before.before.before.before.before.args in ended a.payload.now a.at c.before.before.before.before.before.be-u16.result _ (omega arith) c.before.before.before.before.before.be-u16.ensures (ap (taken_at a.payload.now (a.at + 3) (kind_at a.payload.now a.at)) (sym c.before.before.before.before.usize-from-u16.ensures.0) ∙ sym c.before.before.before.taken_at.ensures ∙ c.before.count.given.1)
 
 returns-4 : tie.Need-returns-4
-returns-4 c = let a = c.before.before.before.before.before.before.before.before.before.before.args in ended a.payload.now a.at c.before.before.before.before.before.be-u16.result _ (omega arith) c.before.before.before.before.before.be-u16.ensures (ap (takenAt a.payload.now (a.at + 3) (kind_at a.payload.now a.at)) (sym c.before.before.before.before.usize-from-u16.ensures.0) ∙ sym c.before.before.before.taken_at.ensures ∙ c.before.number.given.1)
+returns-4 c = let a = c.before.before.before.before.before.before.before.before.before.before.args in ended a.payload.now a.at c.before.before.before.before.before.be-u16.result _ (omega arith) c.before.before.before.before.before.be-u16.ensures (ap (taken_at a.payload.now (a.at + 3) (kind_at a.payload.now a.at)) (sym c.before.before.before.before.usize-from-u16.ensures.0) ∙ sym c.before.before.before.taken_at.ensures ∙ c.before.number.given.1)
 
 pub extent-of-spec : {M : Type 1} → statement M
 extent-of-spec =

@@ -2,7 +2,7 @@ use mathlib.Core.Path.{sym, ap, ◌∙◌}
 use Prim.Native.Nat.{ℕ, ◌+◌, ◌-◌}
 use lib.ListN.{length}
 use borrow.Author.Tests.{ne_eqb}
-use Rattle.blocks.specs.Extent.{takenAt, takesBytes}
+use Rattle.blocks.specs.Extent.{taken_at, takes_bytes}
 use borrow.Author.Rules.{rules}
 use Rattle.blocks_extents.proofs.taken_at.Statement.{statement}
 use Rattle.blocks_extents.proofs.taken_at.Tie as tie
@@ -41,36 +41,36 @@ takes-bytes-requires-2 : tie.Need-takes-bytes-requires-2
 takes-bytes-requires-2 c κs = search rules
 
 returns : tie.Need-returns
-unfolding takenAt
-returns c = let a = c.before.before.before.args in c.router-info.ensures ∙ sym (ap (λ (k : ℕ). takenAt a.payload.now a.body k a.size) c.before.match.keys1)
+unfolding taken_at
+returns c = let a = c.before.before.before.args in c.router-info.ensures ∙ sym (ap (λ (k : ℕ). taken_at a.payload.now a.body k a.size) c.before.match.keys1)
 
 returns-2 : tie.Need-returns-2
-unfolding takenAt
-returns-2 c = let a = c.before.before.before.args in c.i2np.ensures ∙ sym (ap (λ (k : ℕ). takenAt a.payload.now a.body k a.size) c.before.match.keys2)
+unfolding taken_at
+returns-2 c = let a = c.before.before.before.args in c.i2np.ensures ∙ sym (ap (λ (k : ℕ). taken_at a.payload.now a.body k a.size) c.before.match.keys2)
 
 returns-3 : tie.Need-returns-3
-unfolding takenAt
-returns-3 c = let a = c.before.before.before.args in c.first-fragment.ensures ∙ sym (ap (λ (k : ℕ). takenAt a.payload.now a.body k a.size) c.before.match.keys3)
+unfolding taken_at
+returns-3 c = let a = c.before.before.before.args in c.first-fragment.ensures ∙ sym (ap (λ (k : ℕ). taken_at a.payload.now a.body k a.size) c.before.match.keys3)
 
 returns-4 : tie.Need-returns-4
-unfolding takenAt
-returns-4 c = let a = c.before.before.before.args in c.follow-on.ensures ∙ sym (ap (λ (k : ℕ). takenAt a.payload.now a.body k a.size) c.before.match.keys4)
+unfolding taken_at
+returns-4 c = let a = c.before.before.before.args in c.follow-on.ensures ∙ sym (ap (λ (k : ℕ). taken_at a.payload.now a.body k a.size) c.before.match.keys4)
 
 returns-5 : tie.Need-returns-5
-unfolding takenAt
-returns-5 c = let a = c.before.before.before.before.args in c.takes-bytes.ensures ∙ ap (λ (z : ℕ). takesBytes (5 + z) (length a.payload.now - a.body)) c.before.pair-bytes-in.ensures.0 ∙ sym (ap (λ (k : ℕ). takenAt a.payload.now a.body k a.size) c.before.before.match.keys5)
+unfolding taken_at
+returns-5 c = let a = c.before.before.before.before.args in c.takes-bytes.ensures ∙ ap (λ (z : ℕ). takes_bytes (5 + z) (length a.payload.now - a.body)) c.before.pair-bytes-in.ensures.0 ∙ sym (ap (λ (k : ℕ). taken_at a.payload.now a.body k a.size) c.before.before.match.keys5)
 
 returns-6 : tie.Need-returns-6
-unfolding takenAt
-returns-6 c = let a = c.before.before.before.args in c.address.ensures ∙ sym (ap (λ (k : ℕ). takenAt a.payload.now a.body k a.size) c.before.match.keys6)
+unfolding taken_at
+returns-6 c = let a = c.before.before.before.args in c.address.ensures ∙ sym (ap (λ (k : ℕ). taken_at a.payload.now a.body k a.size) c.before.match.keys6)
 
 returns-7 : tie.Need-returns-7
-unfolding takenAt
+unfolding taken_at
 returns-7 c =
     let a = c.before.before.before.before.args in
     let n = c.before.before.match.rest in
     c.takes-bytes2.ensures
-    ∙ ap (λ (z : ℕ). takesBytes z (length a.payload.now - a.body)) c.before.plain-length.ensures
+    ∙ ap (λ (z : ℕ). takes_bytes z (length a.payload.now - a.body)) c.before.plain_length_lem.ensures
     ∙ sym (simp (ne_eqb _ _ n.0.0.0.0.0.1, ne_eqb _ _ n.0.0.0.0.1, ne_eqb _ _ n.0.0.0.1, ne_eqb _ _ n.0.0.1, ne_eqb _ _ n.0.1, ne_eqb _ _ n.1))
 
 pub taken-at-spec : {M : Type 1} → statement M

@@ -1,5 +1,5 @@
-use Rattle.blocks.specs.Table.{afterFields}
-use Rattle.blocks.proofs.Rows.{carries-digit}
+use Rattle.blocks.specs.Table.{after_fields}
+use Rattle.blocks.proofs.Rows.{carries_digit}
 use borrow.Author.Rules.{rules}
 use Rattle.blocks_rows.proofs.carries_bytes.Statement.{statement}
 use Rattle.blocks_rows.proofs.carries_bytes.Tie as tie
@@ -9,4 +9,4 @@ carries-bytes-spec =
     tie.close
     (tie.spec
     (λ c κs. search rules)
-    (λ c. cc (carries-digit (afterFields c.before.args.kind))))
+    (λ c. cc (carries_digit (after_fields c.before.args.kind))))

@@ -1,4 +1,4 @@
-use Rattle.blocks.proofs.Rows.{row-right}
+use Rattle.blocks.proofs.Rows.{row_right}
 use borrow.Author.Rules.{rules}
 use Rattle.blocks_rows.proofs.is_typed.Statement.{statement}
 use Rattle.blocks_rows.proofs.is_typed.Tie as tie
@@ -7,4 +7,4 @@ pub is-typed-spec : {M : Type 1} → statement M
 is-typed-spec =
     tie.close
     (tie.spec
-    (λ c. cc ((row-right c.args.kind (search rules)).is-typed, c.requires)))
+    (λ c. cc ((row_right c.args.kind (search rules)).is_typed, c.requires)))

@@ -1,7 +1,7 @@
 use mathlib.Core.Path.{ap, ◌∙◌}
 use Prim.Native.Nat.{ℕ, ◌/◌}
 use native.Mathlib.Omega.{arith}
-use Rattle.blocks.proofs.Rows.{row-right}
+use Rattle.blocks.proofs.Rows.{row_right}
 use borrow.Author.Rules.{rules}
 use Rattle.blocks_rows.proofs.length_of.Statement.{statement}
 use Rattle.blocks_rows.proofs.length_of.Tie as tie
@@ -10,4 +10,4 @@ pub length-of-spec : {M : Type 1} → statement M
 length-of-spec =
     tie.close
     (tie.spec
-    (λ c. let k = row-right c.args.kind (search rules) in let e = ap (λ (r : ℕ). r / 68719476736) c.requires ∙ k.is-length in (e, omega (arith, e, k.short))))
+    (λ c. let k = row_right c.args.kind (search rules) in let e = ap (λ (r : ℕ). r / 68719476736) c.requires ∙ k.is_length in (e, omega (arith, e, k.short))))

@@ -1,6 +1,6 @@
 use borrow.Author.Rules.{rules}
 use native.Mathlib.Omega.{arith}
-use Rattle.blocks.proofs.Loops.{Puts, place, there-next, puts-start, puts-turn, puts-end}
+use Rattle.blocks.proofs.Loops.{Puts, place, there_next, puts_start, puts_turn, puts_end}
 use Rattle.blocks_rows.proofs.put_fields.Statement.{statement}
 use Rattle.blocks_rows.proofs.put_fields.Tie as tie
 
@@ -16,14 +16,14 @@ put-fields-spec =
     (tie.spec
     invariant-loop
     decreases-loop
-    (λ c. puts-start (search rules) (search rules) c.before.requires)
+    (λ c. puts_start (search rules) (search rules) c.before.requires)
     (λ c. omega (arith, place c.before.before.loop.invariant.rest c.before.loop-test.true))
     (λ c. place c.before.before.loop.invariant.rest c.before.loop-test.true)
-    (λ c κs. omega (arith, there-next c.before.before.loop.invariant.rest c.before.loop-test.true, c.before.before.loop.invariant.as_long))
+    (λ c κs. omega (arith, there_next c.before.before.loop.invariant.rest c.before.loop-test.true, c.before.before.loop.invariant.as_long))
     (λ c κs. tt)
-    (λ c. let l = c.before.before.before.before.before.before.loop in omega (arith, there-next l.invariant.rest c.before.before.before.before.before.loop-test.true, c.width_of.ensures.0, c.before.before.before.before.before.before.before.before.well-formed))
+    (λ c. let l = c.before.before.before.before.before.before.loop in omega (arith, there_next l.invariant.rest c.before.before.before.before.before.loop-test.true, c.width_of.ensures.0, c.before.before.before.before.before.before.before.before.well-formed))
     (λ c. omega (arith, place c.before.before.before.before.before.before.loop.invariant.rest c.before.before.before.before.before.loop-test.true))
     (λ c. omega (arith, c.before.before.before.before.before.loop-test.true))
-    (λ c. puts-turn _ _ c.before.before.before.before.before.before.loop.invariant c.before.before.before.before.before.loop-test.true c.before.before.before.put-number.ensures c.width_of.ensures.0)
+    (λ c. puts_turn _ _ c.before.before.before.before.before.before.loop.invariant c.before.before.before.before.before.loop-test.true c.before.before.before.put-number.ensures c.width_of.ensures.0)
     (λ c. c.before.loop.invariant.as_long)
-    (λ c. puts-end _ _ _ _ c.loop-test.false c.before.loop.invariant))
+    (λ c. puts_end _ _ _ _ c.loop-test.false c.before.loop.invariant))

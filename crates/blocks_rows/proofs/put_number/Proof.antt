@@ -1,7 +1,7 @@
 use mathlib.Core.Path.{ap}
 use native.Mathlib.Omega.{arith}
 use Rattle.blocks.specs.Packed.{width_of}
-use Rattle.blocks.proofs.Rows.{width-else, put_one, cut}
+use Rattle.blocks.proofs.Rows.{width_else, put_one, cut}
 use borrow.Author.Rules.{rules}
 use Rattle.blocks_rows.proofs.put_number.Statement.{statement}
 use Rattle.blocks_rows.proofs.put_number.Tie as tie
@@ -17,7 +17,7 @@ put-number-spec =
     (λ c κs. omega (arith, ap width_of c.before.match.keys2))
     (λ c. search rules)
     (λ c κs. omega (arith, ap width_of c.before.match.keys3))
-    (λ c κs. omega (arith, width-else c.before.match.rest))
+    (λ c κs. omega (arith, width_else c.before.match.rest))
     (λ c. search rules)
     (λ c. let w = ap width_of c.match.keys1 in rw w (put_one _ _ _ (omega (arith, w))))
     (λ c. search rules)
@@ -25,4 +25,4 @@ put-number-spec =
     (λ c. search rules)
     (λ c. rw (ap width_of c.before.before.before.before.match.keys3) (cut _ _ _ 4 c.before.before.put-u32.ensures))
     (λ c. search rules)
-    (λ c. rw (width-else c.before.before.before.before.match.rest) c.before.before.put-u64.ensures))
+    (λ c. rw (width_else c.before.before.before.before.match.rest) c.before.before.put-u64.ensures))

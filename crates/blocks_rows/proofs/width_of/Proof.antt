@@ -1,7 +1,7 @@
 use mathlib.Core.Path.{sym}
 use native.Mathlib.Omega.{arith}
 use Rattle.blocks.specs.Packed.{width_of}
-use Rattle.blocks.proofs.Rows.{width-else}
+use Rattle.blocks.proofs.Rows.{width_else}
 use Rattle.blocks_rows.proofs.width_of.Statement.{statement}
 use Rattle.blocks_rows.proofs.width_of.Tie as tie
 
@@ -13,4 +13,4 @@ width-of-spec =
     (λ c. (rw c.match.keys1, omega arith))
     (λ c. (rw c.match.keys2, omega arith))
     (λ c. (rw c.match.keys3, omega arith))
-    (λ c. (sym (width-else c.match.rest), omega arith)))
+    (λ c. (sym (width_else c.match.rest), omega arith)))

@@ -1,4 +1,4 @@
-use Rattle.blocks.proofs.Rows.{row-right}
+use Rattle.blocks.proofs.Rows.{row_right}
 use borrow.Author.Rules.{rules}
 use Rattle.blocks_rows.proofs.widths_of.Statement.{statement}
 use Rattle.blocks_rows.proofs.widths_of.Tie as tie
@@ -8,4 +8,4 @@ widths-of-spec =
     tie.close
     (tie.spec
     (λ c. search rules)
-    (λ c. cc ((row-right c.args.kind (search rules)).is-widths, c.requires)))
+    (λ c. cc ((row_right c.args.kind (search rules)).is_widths, c.requires)))

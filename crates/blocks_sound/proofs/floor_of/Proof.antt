@@ -4,8 +4,8 @@ use Prim.Native.Nat.{ℕ, ◌*◌, ◌/◌, ◌%◌, ◌^◌}
 use lib.Dec.{ltb, eqb}
 use borrow.Author.Tests.{eqb-true}
 use Rattle.blocks.specs.Layout.{sum}
-use Rattle.blocks.specs.Table.{look, widths, fieldLength}
-use Rattle.blocks.specs.Sound.{isSized, floorOf}
+use Rattle.blocks.specs.Table.{look, widths, field_length}
+use Rattle.blocks.specs.Sound.{is_sized, floor_of}
 use Rattle.blocks.proofs.Tables.{at}
 use borrow.Author.Rules.{rules}
 use Rattle.blocks_sound.proofs.floor_of.Statement.{statement}
@@ -19,7 +19,7 @@ abbrev row : ℕ → ℕ
 row k = cond (ltb k 16) 0x50000090000C4 0x1400C4
 
 abbrev right : ℕ → Bool
-right k = eqb (shown k (row k)) (floorOf k)
+right k = eqb (shown k (row k)) (floor_of k)
 
 row-of-requires : tie.Need-row-of-requires
 row-of-requires c κs = search rules
@@ -34,8 +34,8 @@ shr-result : tie.Need-overflow-shr-result
 shr-result c = search rules
 
 returns : tie.Need-returns
-unfolding floorOf isSized fieldLength widths look sum
-returns c = let k = c.before.args.kind in ap (shown k) c.row_of.ensures ∙ eqb-true (shown k (row k)) (floorOf k) (at right 22 refl k c.before.requires)
+unfolding floor_of is_sized field_length widths look sum
+returns c = let k = c.before.args.kind in ap (shown k) c.row_of.ensures ∙ eqb-true (shown k (row k)) (floor_of k) (at right 22 refl k c.before.requires)
 
 pub floor-of-spec : {M : Type 1} → statement M
 floor-of-spec = tie.close (tie.spec row-of-requires mul-result cast-result shr-result returns)

@@ -2,8 +2,8 @@ use mathlib.Core.Path.{◌≡◌, refl}
 use mathlib.Core.Bool.{Bool, true, false, not}
 use Prim.Native.Nat.{ℕ, ◌/◌, ◌%◌, ◌^◌}
 use lib.Dec.{eqb}
-use Rattle.blocks.specs.Table.{look, afterFields}
-use Rattle.blocks.specs.Extent.{ignoresSize}
+use Rattle.blocks.specs.Table.{look, after_fields}
+use Rattle.blocks.specs.Extent.{ignores_size}
 use Rattle.blocks.proofs.Tables.{at}
 use borrow.Author.Rules.{rules}
 use Rattle.blocks_sound.proofs.ignores_size.Statement.{statement}
@@ -24,14 +24,14 @@ same false true e = cc
 same false false e = refl
 
 abbrev right : ℕ → Bool
-right k = agree (bit k) (ignoresSize k)
+right k = agree (bit k) (ignores_size k)
 
 shr-result : tie.Need-overflow-shr-result
 shr-result c = search rules
 
 returns : tie.Need-returns
-unfolding ignoresSize afterFields look
-returns c = let k = c.args.kind in same (bit k) (ignoresSize k) (at right 22 refl k c.requires)
+unfolding ignores_size after_fields look
+returns c = let k = c.args.kind in same (bit k) (ignores_size k) (at right 22 refl k c.requires)
 
 pub ignores-size-spec : {M : Type 1} → statement M
 ignores-size-spec = tie.close (tie.spec shr-result returns)

@@ -5,7 +5,7 @@ use native.Mathlib.Omega.{arith}
 use lib.Dec.{eqb}
 use borrow.Author.Tests.{le-leb, lt-leb}
 use Rattle.blocks.specs.Sound.{sound}
-use Rattle.blocks.proofs.Lengths.{message-length}
+use Rattle.blocks.proofs.Lengths.{message_length}
 use borrow.Author.Rules.{rules}
 use Rattle.blocks_sound.proofs.is_sound.Statement.{statement}
 use Rattle.blocks_sound.proofs.is_sound.Tie as tie
@@ -18,7 +18,7 @@ unfolding sound
 returns c = let a = c.before.before.before.args in let t : (eqb a.kind 3 || eqb a.kind 4) ≡ true = c.before.if1.true in rw (t, lt-leb (6 + a.kind) a.size c.if2.true)
 
 shared-slice-read-is-listed : tie.Need-shared-slice-read-is-listed
-shared-slice-read-is-listed c = let a = c.before.before.before.before.args in let t : (eqb a.kind 3 || eqb a.kind 4) ≡ true = c.before.before.if1.true in omega (arith, c.before.before.before.before.requires, message-length a.kind a.size t, c.before.if2.false)
+shared-slice-read-is-listed c = let a = c.before.before.before.before.args in let t : (eqb a.kind 3 || eqb a.kind 4) ≡ true = c.before.before.if1.true in omega (arith, c.before.before.before.before.requires, message_length a.kind a.size t, c.before.if2.false)
 
 cast-is-listed : tie.Need-overflow-cast-is-listed
 cast-is-listed c = omega (arith, c.shared-slice-known2.given c.before.before.before.before.args.body)

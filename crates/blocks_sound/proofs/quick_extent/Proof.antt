@@ -5,8 +5,8 @@ use native.Mathlib.Omega.{arith}
 use lib.ListN.{length}
 use Rattle.blocks.specs.declared.Taken.TheVariants as Take
 use Rattle.blocks.specs.Extent.{kind_at}
-use Rattle.blocks.specs.Sound.{bodyLength, sound}
-use Rattle.blocks.proofs.Soundness.{sound-taken}
+use Rattle.blocks.specs.Sound.{body_length, sound}
+use Rattle.blocks.proofs.Soundness.{sound_taken}
 use Rattle.blocks.proofs.Ends.{ended}
 use borrow.Author.Rules.{rules}
 use Rattle.blocks_sound.proofs.quick_extent.Statement.{statement}
@@ -55,7 +55,7 @@ usize-from-u16-requires : tie.Need-usize-from-u16-requires
 usize-from-u16-requires c κs = search rules
 
 is-sound-requires : tie.Need-is-sound-requires
-is-sound-requires c κs = let a = c.before.before.before.before.before.before.before.before.args in let n : c.before.before.body-length.result ≡ bodyLength (kind_at a.payload.now a.at) c.usize-from-u16.result = c.before.before.body-length.ensures.0 ∙ ap (bodyLength (kind_at a.payload.now a.at)) (sym c.usize-from-u16.ensures.0) in omega (arith, n, c.before.if3.false)
+is-sound-requires c κs = let a = c.before.before.before.before.before.before.before.before.args in let n : c.before.before.body-length.result ≡ body_length (kind_at a.payload.now a.at) c.usize-from-u16.result = c.before.before.body-length.ensures.0 ∙ ap (body_length (kind_at a.payload.now a.at)) (sym c.usize-from-u16.ensures.0) in omega (arith, n, c.before.if3.false)
 
 add-t13 : tie.Need-overflow-add-t13
 add-t13 c = search rules
@@ -65,10 +65,10 @@ returns-4 c =
     let a = c.before.before.before.before.before.before.before.before.before.before.args in
     let k = kind_at a.payload.now a.at in
     let z = c.before.before.before.before.before.be-u16.result in
-    let n : c.before.before.before.before.body-length.result ≡ bodyLength k z = c.before.before.before.before.body-length.ensures.0 in
-    let fits : bodyLength k z ≤ length a.payload.now - (a.at + 3) = omega (arith, n, c.before.before.before.if3.false) in
+    let n : c.before.before.before.before.body-length.result ≡ body_length k z = c.before.before.before.before.body-length.ensures.0 in
+    let fits : body_length k z ≤ length a.payload.now - (a.at + 3) = omega (arith, n, c.before.before.before.if3.false) in
     let t : sound a.payload.now (a.at + 3) k z ≡ true = ap (sound a.payload.now (a.at + 3) k) (sym c.before.before.usize-from-u16.ensures.0) ∙ sym c.before.is-sound.ensures ∙ c.if4.true in
-    ended a.payload.now a.at z (Take.Bytes c.before.before.before.before.body-length.result) (omega arith) c.before.before.before.before.before.be-u16.ensures (sound-taken a.payload.now (a.at + 3) z k fits t ∙ ap Take.Bytes (sym n))
+    ended a.payload.now a.at z (Take.Bytes c.before.before.before.before.body-length.result) (omega arith) c.before.before.before.before.before.be-u16.ensures (sound_taken a.payload.now (a.at + 3) z k fits t ∙ ap Take.Bytes (sym n))
 
 extent-of-requires-4 : tie.Need-extent-of-requires-4
 extent-of-requires-4 c κs = search rules

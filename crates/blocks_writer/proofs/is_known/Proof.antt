@@ -9,5 +9,5 @@ is-known-spec =
     (tie.spec
     (λ c κs. search rules)
     (λ c κs. search rules)
-    (λ c. rw (sym c.before.before.is-typed.ensures ∙ c.before.if1.true) c.is-listed.ensures)
-    (λ c. rw (sym c.before.is-typed.ensures ∙ c.if1.false) refl))
+    (λ c. rw (sym c.before.before.is_typed.ensures ∙ c.before.if1.true) c.is-listed.ensures)
+    (λ c. rw (sym c.before.is_typed.ensures ∙ c.if1.false) refl))

@@ -1,6 +1,6 @@
 use mathlib.Core.List.{[]}
 use native.Mathlib.Omega.{arith}
-use Rattle.wire.proofs.Parts.{stores-splice}
+use Rattle.wire.proofs.Parts.{stores_splice}
 use borrow.Author.Rules.{rules}
 use Rattle.blocks_writer.proofs.put_u8.Statement.{statement}
 use Rattle.blocks_writer.proofs.put_u8.Tie as tie
@@ -11,4 +11,4 @@ put-u8-spec =
     (tie.spec
     (λ c. search rules)
     (λ c. search rules)
-    (λ c. stores-splice c.args.room.now c.args.at c.args.x [] (omega arith)))
+    (λ c. stores_splice c.args.room.now c.args.at c.args.x [] (omega arith)))

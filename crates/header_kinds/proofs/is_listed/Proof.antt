@@ -1,4 +1,4 @@
-use Rattle.header.specs.Kinds.{isListed}
+use Rattle.header.specs.Kinds.{is_listed}
 use borrow.Author.Rules.{rules}
 use Rattle.header_kinds.proofs.is_listed.Statement.{statement}
 use Rattle.header_kinds.proofs.is_listed.Tie as tie
@@ -13,7 +13,7 @@ is-middle-requires : tie.Need-is-middle-requires
 is-middle-requires c κs = search rules
 
 returns : tie.Need-returns
-unfolding isListed
+unfolding is_listed
 returns c = cc
 
 pub is-listed-spec : {M : Type 1} → statement M

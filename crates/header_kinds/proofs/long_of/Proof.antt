@@ -1,4 +1,4 @@
-use Rattle.header.specs.Kinds.{maskedLength}
+use Rattle.header.specs.Kinds.{masked_length}
 use borrow.Author.Rules.{rules}
 use Rattle.header_kinds.proofs.long_of.Statement.{statement}
 use Rattle.header_kinds.proofs.long_of.Tie as tie
@@ -7,19 +7,19 @@ is-keyed-requires : tie.Need-is-keyed-requires
 is-keyed-requires c κs = search rules
 
 returns : tie.Need-returns
-unfolding maskedLength
+unfolding masked_length
 returns c = rw (← c.before.is-keyed.ensures, c.if1.true)
 
 is-short-requires : tie.Need-is-short-requires
 is-short-requires c κs = search rules
 
 returns-2 : tie.Need-returns-2
-unfolding maskedLength
-returns-2 c = rw (← c.before.before.before.is-keyed.ensures, c.before.before.if1.false, ← c.before.is-short.ensures, c.if2.true)
+unfolding masked_length
+returns-2 c = rw (← c.before.before.before.is-keyed.ensures, c.before.before.if1.false, ← c.before.is_short_lem.ensures, c.if2.true)
 
 returns-3 : tie.Need-returns-3
-unfolding maskedLength
-returns-3 c = rw (← c.before.before.before.is-keyed.ensures, c.before.before.if1.false, ← c.before.is-short.ensures, c.if2.false)
+unfolding masked_length
+returns-3 c = rw (← c.before.before.before.is-keyed.ensures, c.before.before.if1.false, ← c.before.is_short_lem.ensures, c.if2.false)
 
 pub long-of-spec : {M : Type 1} → statement M
 long-of-spec = tie.close (tie.spec is-keyed-requires returns is-short-requires returns-2 returns-3)

@@ -15,11 +15,11 @@ is-short-requires c κs = search rules
 
 returns-2 : tie.Need-returns-2
 unfolding need_of
-returns-2 c = rw (← c.before.before.before.is-keyed.ensures, c.before.before.if1.false, ← c.before.is-short.ensures, c.if2.true)
+returns-2 c = rw (← c.before.before.before.is-keyed.ensures, c.before.before.if1.false, ← c.before.is_short_lem.ensures, c.if2.true)
 
 returns-3 : tie.Need-returns-3
 unfolding need_of
-returns-3 c = rw (← c.before.before.before.is-keyed.ensures, c.before.before.if1.false, ← c.before.is-short.ensures, c.if2.false)
+returns-3 c = rw (← c.before.before.before.is-keyed.ensures, c.before.before.if1.false, ← c.before.is_short_lem.ensures, c.if2.false)
 
 pub need-of-spec : {M : Type 1} → statement M
 need-of-spec = tie.close (tie.spec is-keyed-requires returns is-short-requires returns-2 returns-3)

@@ -1,4 +1,4 @@
-use Rattle.header.proofs.Fronts.{front-by-steps}
+use Rattle.header.proofs.Fronts.{front_by_steps}
 use borrow.Author.Rules.{rules}
 use Rattle.header_masks.proofs.front_of.Statement.{statement}
 use Rattle.header_masks.proofs.front_of.Tie as tie
@@ -33,7 +33,7 @@ mask-requires-2 c κs = search rules
 returns : tie.Need-returns
 returns c =
     let a = c.before.before.before.before.before.before.before.before.before.before.before.before.args in
-    front-by-steps a.k1.now a.k2.now a.pkt.now (search rules)
+    front_by_steps a.k1.now a.k2.now a.pkt.now (search rules)
     c.before.before.before.before.before.before.before.before.before.before.nonce-at.ensures c.before.before.before.before.before.before.before.before.before.nonce-at2.ensures c.before.before.before.before.before.before.before.before.first-16.ensures c.before.before.before.before.before.mask.ensures c.before.mask2.ensures
 
 pub front-of-spec : {M : Type 1} → statement M

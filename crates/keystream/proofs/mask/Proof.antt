@@ -1,5 +1,5 @@
 use Rattle.std.proofs.Common.{◌+◌, refl, rules}
-use Rattle.keystream.proofs.Masks.{masked-lent}
+use Rattle.keystream.proofs.Masks.{masked_lent}
 use Rattle.keystream.proofs.mask.Statement.{statement}
 use Rattle.keystream.proofs.mask.Tie as tie
 
@@ -30,7 +30,7 @@ same_length c = search rules
 returns : tie.Need-returns
 returns c =
     let a = c.before.before.before.before.before.before.before.args in
-    masked-lent a.buf.now a.from (a.from + a.n) a.n (search rules) refl c.before.before.before.before.before.block.ensures c.before.before.xor-with.ensures
+    masked_lent a.buf.now a.from (a.from + a.n) a.n (search rules) refl c.before.before.before.before.before.block.ensures c.before.before.xor-with.ensures
 
 pub mask-spec : {M : Type 1} → statement M
 mask-spec =

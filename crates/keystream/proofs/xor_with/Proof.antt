@@ -1,18 +1,18 @@
 use Rattle.std.proofs.Common.{◌≡◌, ℕ, ◌-◌, ◌≤◌, length, take, sym, refl, ap, ◌∙◌, add-one, arith, length-set}
-use Rattle.keystream.specs.Mask.{xorWith}
-use Rattle.keystream.proofs.Masks.{xor-none, xor-more, xor-enough}
+use Rattle.keystream.specs.Mask.{xor_with}
+use Rattle.keystream.proofs.Masks.{xor_none, xor_more, xor_enough}
 use Rattle.keystream.proofs.xor_with.Statement.{statement}
 use Rattle.keystream.proofs.xor_with.Tie as tie
 
 abbrev invariant-loop : tie.invariant-loop
 invariant-loop part₀ stream i₀ i-end part i =
-    (i ≤ i-end) × (i-end ≡ length part₀) × (length part ≡ length part₀) × (part ≡ xorWith part₀ (take i stream))
+    (i ≤ i-end) × (i-end ≡ length part₀) × (length part ≡ length part₀) × (part ≡ xor_with part₀ (take i stream))
 
 abbrev decreases-loop : tie.decreases-loop
 decreases-loop part₀ stream i₀ i-end part i = i-end - i
 
 loop-holds : tie.Need-loop-init invariant-loop decreases-loop
-loop-holds c = (omega arith, refl, refl, sym (xor-none _))
+loop-holds c = (omega arith, refl, refl, sym (xor_none _))
 
 slice-read-part : tie.Need-slice-read-part invariant-loop decreases-loop
 slice-read-part c = omega arith
@@ -35,7 +35,7 @@ loop-again c =
       omega arith,
       refl,
       simp length-set l.invariant.2,
-      rw (add-one, l.invariant.3) (xor-more _ _ l.i (omega arith) (omega arith)),
+      rw (add-one, l.invariant.3) (xor_more _ _ l.i (omega arith) (omega arith)),
     )
 
 same_length : tie.Need-same-length invariant-loop decreases-loop
@@ -45,7 +45,7 @@ returns : tie.Need-returns invariant-loop decreases-loop
 returns c =
     let l = c.before.loop in
     let e : l.i ≡ length c.before.before.args.part.now = omega arith in
-    l.invariant.3 ∙ ap (λ (n : ℕ). xorWith c.before.before.args.part.now (take n c.before.before.args.stream.now)) e ∙ xor-enough _ _
+    l.invariant.3 ∙ ap (λ (n : ℕ). xor_with c.before.before.args.part.now (take n c.before.before.args.stream.now)) e ∙ xor_enough _ _
 
 pub xor-with-spec : {M : Type 1} → statement M
 xor-with-spec =

@@ -4,8 +4,8 @@ use Prim.Native.Nat.{◌+◌, ◌≤◌, ◌-◌}
 use native.Mathlib.Omega.{arith}
 use lib.ListN.{length, get_or, drop}
 use borrow.Author.Rules.{rules}
-use Rattle.lines.specs.Fields.{isEnd, lead}
-use Rattle.lines.proofs.Scans.{lead-ends, lead-goes, lead-none}
+use Rattle.lines.specs.Fields.{is_end, lead}
+use Rattle.lines.proofs.Scans.{lead_ends, lead_goes, lead_none}
 use Rattle.lines.proofs.end_of.Statement.{statement}
 use Rattle.lines.proofs.end_of.Tie as tie
 
@@ -29,8 +29,8 @@ returns c =
     let at-loop = c.before.before.before.before in
     let a = at-loop.before.before.args in
     let i = at-loop.loop.i in
-    let t : isEnd a.own (get_or a.text.now i 0) ≡ true = sym c.before.ends.ensures ∙ c.if1.true in
-    omega (arith, lead-ends a.own a.text.now i (omega arith) t, at-loop.loop.invariant)
+    let t : is_end a.own (get_or a.text.now i 0) ≡ true = sym c.before.ends.ensures ∙ c.if1.true in
+    omega (arith, lead_ends a.own a.text.now i (omega arith) t, at-loop.loop.invariant)
 
 add-i : tie.Need-overflow-add-i invariant-loop decreases-loop
 add-i c = search rules
@@ -43,14 +43,14 @@ loop-again c =
     let at-loop = c.before.before.before.before in
     let a = at-loop.before.before.args in
     let i = at-loop.loop.i in
-    let t : isEnd a.own (get_or a.text.now i 0) ≡ false = sym c.before.ends.ensures ∙ c.if1.false in
-    (search rules, at-loop.loop.invariant.1 ∙ lead-goes a.own a.text.now i (omega arith) t)
+    let t : is_end a.own (get_or a.text.now i 0) ≡ false = sym c.before.ends.ensures ∙ c.if1.false in
+    (search rules, at-loop.loop.invariant.1 ∙ lead_goes a.own a.text.now i (omega arith) t)
 
 returns-2 : tie.Need-returns-2 invariant-loop decreases-loop
 returns-2 c =
     let a = c.before.before.before.args in
     let i = c.before.loop.i in
-    omega (arith, lead-none a.own a.text.now i (omega arith), c.before.loop.invariant)
+    omega (arith, lead_none a.own a.text.now i (omega arith), c.before.loop.invariant)
 
 pub end-of-spec : {M : Type 1} → statement M
 end-of-spec =

@@ -3,13 +3,13 @@ use Prim.Native.Nat.{◌≤◌, ◌-◌}
 use native.Mathlib.Omega.{arith}
 use lib.ListN.{length, drop}
 use borrow.Author.Rules.{rules}
-use Rattle.lines.specs.Digits.{pairsOf, all_bytes}
-use Rattle.lines.proofs.Hex.{bytes-refused, bytes-go, bytes-end}
+use Rattle.lines.specs.Digits.{pairs_of, all_bytes}
+use Rattle.lines.proofs.Hex.{bytes_refused, bytes_go, bytes_end}
 use Rattle.lines.proofs.is_hex.Statement.{statement}
 use Rattle.lines.proofs.is_hex.Tie as tie
 
 abbrev invariant-loop : tie.invariant-loop
-invariant-loop field i₀ i = (i ≤ length field) × (all_bytes (pairsOf field) ≡ all_bytes (pairsOf (drop i field)))
+invariant-loop field i₀ i = (i ≤ length field) × (all_bytes (pairs_of field) ≡ all_bytes (pairs_of (drop i field)))
 
 abbrev decreases-loop : tie.decreases-loop
 decreases-loop field i₀ i = length field - i
@@ -36,7 +36,7 @@ returns : tie.Need-returns invariant-loop decreases-loop
 returns c =
     let at-loop = c.before.before.before.before.before in
     let field = at-loop.before.before.args.field.now in
-    bytes-refused field at-loop.loop.i (omega arith) (omega (arith, c.before.pair.ensures, c.if1.true)) ∙ sym at-loop.loop.invariant.1
+    bytes_refused field at-loop.loop.i (omega arith) (omega (arith, c.before.pair.ensures, c.if1.true)) ∙ sym at-loop.loop.invariant.1
 
 add-i : tie.Need-overflow-add-i invariant-loop decreases-loop
 add-i c = search rules
@@ -48,13 +48,13 @@ loop-again : tie.Need-loop-preserved invariant-loop decreases-loop
 loop-again c =
     let at-loop = c.before.before.before.before.before in
     let field = at-loop.before.before.args.field.now in
-    (search rules, at-loop.loop.invariant.1 ∙ bytes-go field at-loop.loop.i (omega arith) (omega (arith, c.before.pair.ensures, c.if1.false)))
+    (search rules, at-loop.loop.invariant.1 ∙ bytes_go field at-loop.loop.i (omega arith) (omega (arith, c.before.pair.ensures, c.if1.false)))
 
 returns-2 : tie.Need-returns-2 invariant-loop decreases-loop
 returns-2 c =
     let at-loop = c.before in
     let field = at-loop.before.before.args.field.now in
-    bytes-end field at-loop.loop.i (omega arith) (omega arith) ∙ sym at-loop.loop.invariant.1
+    bytes_end field at-loop.loop.i (omega arith) (omega arith) ∙ sym at-loop.loop.invariant.1
 
 pub is-hex-spec : {M : Type 1} → statement M
 is-hex-spec =

@@ -3,22 +3,22 @@ use Prim.Native.Nat.{ℕ, ◌+◌, ◌*◌, ◌^◌, ◌≤◌, ◌<◌, ◌-◌
 use native.Mathlib.Omega.{arith}
 use lib.ListN.{length, get_or, drop}
 use borrow.Author.Rules.{rules}
-use Rattle.lines.specs.Digits.{digitOf, numberFrom, decimalOf}
-use Rattle.lines.proofs.Decimal.{number-refused, number-large, number-goes, number-end, number-none, number-some}
+use Rattle.lines.specs.Digits.{digit_of, number_from, decimal_of}
+use Rattle.lines.proofs.Decimal.{number_refused, number_large, number_goes, number_end, number_none, number_some}
 use Rattle.lines.proofs.number.Statement.{statement}
 use Rattle.lines.proofs.number.Tie as tie
 
 abbrev invariant-loop : tie.invariant-loop
-invariant-loop field x₀ i₀ x i = (i ≤ length field) × (x < 2 ^ 64) × (decimalOf field ≡ numberFrom x (drop i field))
+invariant-loop field x₀ i₀ x i = (i ≤ length field) × (x < 2 ^ 64) × (decimal_of field ≡ number_from x (drop i field))
 
 abbrev decreases-loop : tie.decreases-loop
 decreases-loop field x₀ i₀ x i = length field - i
 
 returns : tie.Need-returns invariant-loop decreases-loop
-returns c = number-none c.before.before.args.field.now c.if1.true
+returns c = number_none c.before.before.args.field.now c.if1.true
 
 loop-holds : tie.Need-loop-init invariant-loop decreases-loop
-loop-holds c = (search rules, search rules, number-some c.before.before.args.field.now c.if1.false)
+loop-holds c = (search rules, search rules, number_some c.before.before.args.field.now c.if1.false)
 
 shared-slice-read-digit : tie.Need-shared-slice-read-digit invariant-loop decreases-loop
 shared-slice-read-digit c = search rules
@@ -30,13 +30,13 @@ returns-2 : tie.Need-returns-2 invariant-loop decreases-loop
 returns-2 c =
     let at-loop = c.before.before.before.before in
     let field = at-loop.before.before.before.args.field.now in
-    number-refused field at-loop.loop.i at-loop.loop.x (omega arith) (omega (arith, c.before.digit.ensures, c.if2.true)) ∙ sym at-loop.loop.invariant.2
+    number_refused field at-loop.loop.i at-loop.loop.x (omega arith) (omega (arith, c.before.digit.ensures, c.if2.true)) ∙ sym at-loop.loop.invariant.2
 
 returns-3 : tie.Need-returns-3 invariant-loop decreases-loop
 returns-3 c =
     let at-loop = c.before.before.before.before.before in
     let field = at-loop.before.before.before.args.field.now in
-    number-large field at-loop.loop.i at-loop.loop.x (omega arith) (omega (arith, c.if3.true)) ∙ sym at-loop.loop.invariant.2
+    number_large field at-loop.loop.i at-loop.loop.x (omega arith) (omega (arith, c.if3.true)) ∙ sym at-loop.loop.invariant.2
 
 mul-ten : tie.Need-overflow-mul-ten invariant-loop decreases-loop
 mul-ten c = search rules
@@ -52,7 +52,7 @@ returns-4 c =
     let at-digit = c.before.before.before in
     let at-loop = at-digit.before.before.before in
     let field = at-loop.before.before.before.args.field.now in
-    number-large field at-loop.loop.i at-loop.loop.x (omega arith) (omega (arith, at-digit.digit.ensures, c.if4.true)) ∙ sym at-loop.loop.invariant.2
+    number_large field at-loop.loop.i at-loop.loop.x (omega arith) (omega (arith, at-digit.digit.ensures, c.if4.true)) ∙ sym at-loop.loop.invariant.2
 
 cast-x : tie.Need-overflow-cast-x invariant-loop decreases-loop
 cast-x c = search rules
@@ -73,15 +73,15 @@ loop-again c =
     let field = at-loop.before.before.before.args.field.now in
     let i = at-loop.loop.i in
     let x = at-loop.loop.x in
-    let d : digitOf (get_or field i 0) ≡ at-digit.digit.result = sym at-digit.digit.ensures.0 in
-    let step : numberFrom x (drop i field) ≡ numberFrom (x * 10 + digitOf (get_or field i 0)) (drop (i + 1) field) = number-goes field i x (omega arith) (omega (arith, d, c.before.before.if2.false)) in
-    (search rules, search rules, at-loop.loop.invariant.2 ∙ step ∙ ap (λ (z : ℕ). numberFrom (x * 10 + z) (drop (i + 1) field)) d)
+    let d : digit_of (get_or field i 0) ≡ at-digit.digit.result = sym at-digit.digit.ensures.0 in
+    let step : number_from x (drop i field) ≡ number_from (x * 10 + digit_of (get_or field i 0)) (drop (i + 1) field) = number_goes field i x (omega arith) (omega (arith, d, c.before.before.if2.false)) in
+    (search rules, search rules, at-loop.loop.invariant.2 ∙ step ∙ ap (λ (z : ℕ). number_from (x * 10 + z) (drop (i + 1) field)) d)
 
 returns-5 : tie.Need-returns-5 invariant-loop decreases-loop
 returns-5 c =
     let at-loop = c.before in
     let field = at-loop.before.before.before.args.field.now in
-    number-end field at-loop.loop.i at-loop.loop.x (omega arith) at-loop.loop.invariant.1 ∙ sym at-loop.loop.invariant.2
+    number_end field at-loop.loop.i at-loop.loop.x (omega arith) at-loop.loop.invariant.1 ∙ sym at-loop.loop.invariant.2
 
 pub number-spec : {M : Type 1} → statement M
 number-spec =

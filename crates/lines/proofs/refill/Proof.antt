@@ -3,7 +3,7 @@ use native.Mathlib.Omega.{arith}
 use lib.ListN.{length}
 use borrow.Author.Rules.{rules}
 use Rattle.lines.specs.Fields.{unread}
-use Rattle.lines.proofs.Moving.{move-stays}
+use Rattle.lines.proofs.Moving.{move_stays}
 use Rattle.lines.proofs.refill.Statement.{statement}
 use Rattle.lines.proofs.refill.Tie as tie
 
@@ -38,7 +38,7 @@ returns c =
     let a = between.before.before.args in
     let n = between.between.result in
     let x = shift.shift.new.0 in
-    let kept = move-stays a.buf.now a.used n (omega arith) x c.before.before.read-full.new.1.0 (length x - n) (unread a.used a.have (length a.buf.now)) between.between.ensures shift.shift.ensures in
+    let kept = move_stays a.buf.now a.used n (omega arith) x c.before.before.read-full.new.1.0 (length x - n) (unread a.used a.have (length a.buf.now)) between.between.ensures shift.shift.ensures in
     (kept, search rules)
 
 pub refill-spec : {M : Type 1} → statement M

@@ -5,7 +5,7 @@ use lib.ListN.{length, length-set}
 use lib.Seq.{paste, paste-zero}
 use borrow.Author.Rules.{rules}
 use Rattle.wire.specs.Parts.{part}
-use Rattle.lines.proofs.Moving.{move-turn, move-end}
+use Rattle.lines.proofs.Moving.{move_turn, move_end}
 use Rattle.lines.proofs.shift.Statement.{statement}
 use Rattle.lines.proofs.shift.Tie as tie
 
@@ -40,7 +40,7 @@ loop-again c =
     let at-loop = c.before.before in
     let a = at-loop.before.args in
     let v = at-loop.loop.invariant in
-    (search rules, v.1, simp length-set v.2, move-turn a.buf.now a.from a.n v.1 at-loop.loop.buf at-loop.loop.i v.3 (omega arith))
+    (search rules, v.1, simp length-set v.2, move_turn a.buf.now a.from a.n v.1 at-loop.loop.buf at-loop.loop.i v.3 (omega arith))
 
 same_length : tie.Need-same-length invariant-loop decreases-loop
 same_length c = search rules
@@ -50,7 +50,7 @@ returns c =
     let at-loop = c.before in
     let a = at-loop.before.args in
     let v = at-loop.loop.invariant in
-    move-end a.buf.now a.from a.n v.1 at-loop.loop.buf at-loop.loop.i v.3 (omega arith)
+    move_end a.buf.now a.from a.n v.1 at-loop.loop.buf at-loop.loop.i v.3 (omega arith)
 
 pub shift-spec : {M : Type 1} → statement M
 shift-spec =

@@ -3,13 +3,13 @@ use Prim.Native.Nat.{◌≤◌}
 use native.Mathlib.Omega.{arith}
 use lib.ListN.{length}
 use borrow.Author.Rules.{rules}
-use Rattle.lines.specs.Fields.{wholeUpTo}
-use Rattle.lines.proofs.Scans.{whole-ends, whole-goes, whole-none}
+use Rattle.lines.specs.Fields.{whole_up_to}
+use Rattle.lines.proofs.Scans.{whole_ends, whole_goes, whole_none}
 use Rattle.lines.proofs.whole.Statement.{statement}
 use Rattle.lines.proofs.whole.Tie as tie
 
 abbrev invariant-loop : tie.invariant-loop
-invariant-loop text n₀ n = (n ≤ length text) × (wholeUpTo text (length text) ≡ wholeUpTo text n)
+invariant-loop text n₀ n = (n ≤ length text) × (whole_up_to text (length text) ≡ whole_up_to text n)
 
 abbrev decreases-loop : tie.decreases-loop
 decreases-loop text n₀ n = n
@@ -28,7 +28,7 @@ returns c =
     let at-loop = c.before.before.before in
     let text = at-loop.before.args.text.now in
     let n = at-loop.loop.n in
-    (whole-ends text n (omega arith) c.if1.true ∙ sym at-loop.loop.invariant.1, search rules)
+    (whole_ends text n (omega arith) c.if1.true ∙ sym at-loop.loop.invariant.1, search rules)
 
 sub-n : tie.Need-overflow-sub-n invariant-loop decreases-loop
 sub-n c = search rules
@@ -41,12 +41,12 @@ loop-again c =
     let at-loop = c.before.before.before in
     let text = at-loop.before.args.text.now in
     let n = at-loop.loop.n in
-    (search rules, at-loop.loop.invariant.1 ∙ whole-goes text n (omega arith) c.if1.false)
+    (search rules, at-loop.loop.invariant.1 ∙ whole_goes text n (omega arith) c.if1.false)
 
 returns-2 : tie.Need-returns-2 invariant-loop decreases-loop
 returns-2 c =
     let text = c.before.before.args.text.now in
-    (whole-none text c.before.loop.n (omega arith) ∙ sym c.before.loop.invariant.1, search rules)
+    (whole_none text c.before.loop.n (omega arith) ∙ sym c.before.loop.invariant.1, search rules)
 
 pub whole-spec : {M : Type 1} → statement M
 whole-spec =

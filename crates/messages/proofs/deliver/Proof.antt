@@ -2,8 +2,8 @@ use mathlib.Core.Path.{refl}
 use native.Mathlib.Omega.{arith}
 use borrow.Author.Tests.{ne_eqb}
 use Rattle.blocks.specs.Table.{look, widths}
-use Rattle.blocks.proofs.Laws.{fits-at}
-use Rattle.messages.specs.Delivery.{deliveredBy}
+use Rattle.blocks.proofs.Laws.{fits_at}
+use Rattle.messages.specs.Delivery.{delivered_by}
 use borrow.Author.Rules.{rules}
 use Rattle.messages.proofs.deliver.Statement.{statement}
 use Rattle.messages.proofs.deliver.Tie as tie
@@ -15,7 +15,7 @@ cast-whole-at : tie.Need-overflow-cast-whole-at
 unfolding widths look
 cast-whole-at c =
     let h = rw c.if1.true at c.before.before.before.before.before.requires in
-    omega (arith, fits-at _ _ 0 h (omega arith))
+    omega (arith, fits_at _ _ 0 h (omega arith))
 
 array-read-whole-at-2 : tie.Need-array-read-whole-at-2
 array-read-whole-at-2 c = search rules
@@ -24,7 +24,7 @@ cast-whole-at-2 : tie.Need-overflow-cast-whole-at-2
 unfolding widths look
 cast-whole-at-2 c =
     let h = rw c.if1.true at c.before.before.before.before.before.requires in
-    omega (arith, fits-at _ _ 1 h (omega arith))
+    omega (arith, fits_at _ _ 1 h (omega arith))
 
 array-read-whole-at-3 : tie.Need-array-read-whole-at-3
 array-read-whole-at-3 c = search rules
@@ -33,14 +33,14 @@ cast-whole-at-3 : tie.Need-overflow-cast-whole-at-3
 unfolding widths look
 cast-whole-at-3 c =
     let h = rw c.if1.true at c.before.before.before.before.before.requires in
-    omega (arith, fits-at _ _ 2 h (omega arith))
+    omega (arith, fits_at _ _ 2 h (omega arith))
 
 whole-at-requires : tie.Need-whole-at-requires
 whole-at-requires c κs = search rules
 
 returns : tie.Need-returns
-unfolding deliveredBy
-returns c = rw (c.before.if1.true, c.whole-at.ensures) refl
+unfolding delivered_by
+returns c = rw (c.before.if1.true, c.whole_at_lem.ensures) refl
 
 deliver-first-requires : tie.Need-deliver-first-requires
 deliver-first-requires c κs = rw c.before.before.before.if2.true at c.before.before.before.before.before.before.before.before.before.requires
@@ -76,7 +76,7 @@ nothing-requires : tie.Need-nothing-requires
 nothing-requires c κs = search rules
 
 returns-4 : tie.Need-returns-4
-unfolding deliveredBy
+unfolding delivered_by
 returns-4 c =
     rw (ne_eqb _ _ c.before.before.before.if1.false, ne_eqb _ _ c.before.before.if2.false, ne_eqb _ _ c.before.if3.false, c.nothing.ensures) refl
 

@@ -1,8 +1,8 @@
 use mathlib.Core.Path.{refl, sym}
 use native.Mathlib.Omega.{arith}
 use Rattle.blocks.specs.Table.{look, widths}
-use Rattle.blocks.proofs.Laws.{fits-at}
-use Rattle.messages.specs.Delivery.{rebuilt, deliveredBy}
+use Rattle.blocks.proofs.Laws.{fits_at}
+use Rattle.messages.specs.Delivery.{rebuilt, delivered_by}
 use borrow.Author.Rules.{rules}
 use Rattle.messages.proofs.deliver_first.Statement.{statement}
 use Rattle.messages.proofs.deliver_first.Tie as tie
@@ -12,21 +12,21 @@ array-read-kind c = search rules
 
 cast-kind : tie.Need-overflow-cast-kind
 unfolding widths look
-cast-kind c = omega (arith, fits-at _ _ 0 c.before.before.before.before.requires (omega arith))
+cast-kind c = omega (arith, fits_at _ _ 0 c.before.before.before.before.requires (omega arith))
 
 array-read-id : tie.Need-array-read-id
 array-read-id c = search rules
 
 cast-id : tie.Need-overflow-cast-id
 unfolding widths look
-cast-id c = omega (arith, fits-at _ _ 1 c.before.before.before.before.requires (omega arith))
+cast-id c = omega (arith, fits_at _ _ 1 c.before.before.before.before.requires (omega arith))
 
 array-read-expiration : tie.Need-array-read-expiration
 array-read-expiration c = search rules
 
 cast-expiration : tie.Need-overflow-cast-expiration
 unfolding widths look
-cast-expiration c = omega (arith, fits-at _ _ 2 c.before.before.before.before.requires (omega arith))
+cast-expiration c = omega (arith, fits_at _ _ 2 c.before.before.before.before.requires (omega arith))
 
 shown-requires : tie.Need-shown-requires
 shown-requires c κs = search rules
@@ -47,7 +47,7 @@ same-length-3 : tie.Need-same-length-3
 same-length-3 c = search rules
 
 returns : tie.Need-returns
-unfolding deliveredBy rebuilt
+unfolding delivered_by rebuilt
 returns c = rw (c.rebuilt-by.ensures, sym c.before.before.before.before.before.before.before.before.before.before.before.shown.ensures, sym c.before.before.before.before.before.before.before.first-fragment.ensures.0) refl
 
 pub deliver-first-spec : {M : Type 1} → statement M

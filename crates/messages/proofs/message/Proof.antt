@@ -2,7 +2,7 @@ use mathlib.Core.Bool.{true, false}
 use lib.Dec.{eqb}
 use mathlib.Core.Path.{◌≡◌, refl, sym, ◌∙◌}
 use borrow.Author.Tests.{eq-eqb, ne_eqb}
-use Rattle.messages.specs.Delivery.{messageIn}
+use Rattle.messages.specs.Delivery.{message_in}
 use borrow.Author.Rules.{rules}
 use Rattle.messages.proofs.message.Statement.{statement}
 use Rattle.messages.proofs.message.Tie as tie
@@ -11,14 +11,14 @@ shown-requires : tie.Need-shown-requires
 shown-requires c κs = search rules
 
 returns : tie.Need-returns
-unfolding messageIn
+unfolding message_in
 returns c = c.shown.ensures ∙ sym (simp (eq-eqb _ _ c.before.if1.true))
 
 shown-requires-2 : tie.Need-shown-requires-2
 shown-requires-2 c κs = search rules
 
 returns-2 : tie.Need-returns-2
-unfolding messageIn
+unfolding message_in
 returns-2 c =
     let a = c.before.before.before.before.before.before.before.args in
     let t : eqb a.r.from 1 ≡ false = ne_eqb a.r.from 1 c.before.before.before.if1.false in
@@ -35,7 +35,7 @@ part-result-end : tie.Need-slice-bounds-result-end
 part-result-end c = search rules
 
 returns-3 : tie.Need-returns-3
-unfolding messageIn
+unfolding message_in
 returns-3 c =
     let a = c.before.before.before.before.before.before.before.args in
     let t : eqb a.r.from 1 ≡ false = ne_eqb a.r.from 1 c.before.before.before.if1.false in

@@ -2,13 +2,13 @@ use mathlib.Core.Bool.{true, false}
 use lib.Dec.{eqb}
 use mathlib.Core.Path.{◌≡◌, refl, ◌∙◌}
 use borrow.Author.Tests.{eq-eqb, ne_eqb}
-use Rattle.messages.specs.Delivery.{rebuiltBy}
+use Rattle.messages.specs.Delivery.{rebuilt_by}
 use borrow.Author.Rules.{rules}
 use Rattle.messages.proofs.rebuilt_by.Statement.{statement}
 use Rattle.messages.proofs.rebuilt_by.Tie as tie
 
 returns : tie.Need-returns
-unfolding rebuiltBy
+unfolding rebuilt_by
 returns c =
     let t : eqb c.before.before.args.r.number 60 ≡ true = eq-eqb c.before.before.args.r.number 60 c.if1.true in
     rw t refl
@@ -17,7 +17,7 @@ nothing-requires : tie.Need-nothing-requires
 nothing-requires c κs = search rules
 
 returns-2 : tie.Need-returns-2
-unfolding rebuiltBy
+unfolding rebuilt_by
 returns-2 c =
     let r = c.before.before.before.before.before.args.r in
     let t : eqb r.number 60 ≡ false = ne_eqb r.number 60 c.before.before.before.if1.false in
@@ -31,7 +31,7 @@ nothing-requires-2 : tie.Need-nothing-requires-2
 nothing-requires-2 c κs = search rules
 
 returns-3 : tie.Need-returns-3
-unfolding rebuiltBy
+unfolding rebuilt_by
 returns-3 c =
     let r = c.before.before.before.before.before.before.args.r in
     let t : eqb r.number 60 ≡ false = ne_eqb r.number 60 c.before.before.before.before.if1.false in

@@ -1,4 +1,4 @@
-use Rattle.wire.proofs.Slices.{slice_is, slice-to-end, part-past}
+use Rattle.wire.proofs.Slices.{slice_is, slice_to_end, part_past}
 use mathlib.Core.Path.{sym}
 use borrow.Author.Rules.{rules}
 use Rattle.messages.proofs.shown.Statement.{statement}
@@ -14,7 +14,7 @@ part-result-end : tie.Need-slice-bounds-result-end
 part-result-end c = search rules
 
 returns : tie.Need-returns
-returns c = sym (part-past c.before.before.args.b.now c.before.before.args.start c.before.before.args.len (search rules))
+returns c = sym (part_past c.before.before.args.b.now c.before.before.args.start c.before.before.args.len (search rules))
 
 sub-if2 : tie.Need-overflow-sub-if2
 sub-if2 c = search rules
@@ -29,7 +29,7 @@ part-result-end-2 : tie.Need-slice-bounds-result-end-2
 part-result-end-2 c = search rules
 
 returns-2 : tie.Need-returns-2
-returns-2 c = slice-to-end c.before.before.before.args.b.now c.before.before.before.args.start c.before.before.before.args.len (search rules)
+returns-2 c = slice_to_end c.before.before.before.args.b.now c.before.before.before.args.start c.before.before.before.args.len (search rules)
 
 add-end : tie.Need-overflow-add-end
 add-end c = search rules

@@ -1,5 +1,5 @@
 use mathlib.Core.Path.{ap, sym, ◌∙◌}
-use Rattle.numbers.specs.Headers.{kindNumbers}
+use Rattle.numbers.specs.Headers.{kind_numbers}
 use borrow.Author.Rules.{rules}
 use Rattle.numbers_headers.proofs.kind_numbers.Statement.{statement}
 use Rattle.numbers_headers.proofs.kind_numbers.Tie as tie
@@ -53,28 +53,28 @@ long-numbers-requires-6 : tie.Need-long-numbers-requires-6
 long-numbers-requires-6 c κs = search rules
 
 returns : tie.Need-returns
-returns c = c.long-numbers.ensures ∙ ap kindNumbers (sym c.before.before.kind.given.1)
+returns c = c.long-numbers.ensures ∙ ap kind_numbers (sym c.before.before.kind.given.1)
 
 returns-2 : tie.Need-returns-2
-returns-2 c = c.long-numbers2.ensures ∙ ap kindNumbers (sym c.before.before.kind2.given.1)
+returns-2 c = c.long-numbers2.ensures ∙ ap kind_numbers (sym c.before.before.kind2.given.1)
 
 returns-3 : tie.Need-returns-3
-returns-3 c = c.confirmed-numbers.ensures ∙ ap kindNumbers (sym c.before.before.kind3.given.1)
+returns-3 c = c.confirmed-numbers.ensures ∙ ap kind_numbers (sym c.before.before.kind3.given.1)
 
 returns-4 : tie.Need-returns-4
-returns-4 c = c.data-numbers.ensures ∙ ap kindNumbers (sym c.before.before.kind4.given.1)
+returns-4 c = c.data-numbers.ensures ∙ ap kind_numbers (sym c.before.before.kind4.given.1)
 
 returns-5 : tie.Need-returns-5
-returns-5 c = c.long-numbers3.ensures ∙ ap kindNumbers (sym c.before.before.kind5.given.1)
+returns-5 c = c.long-numbers3.ensures ∙ ap kind_numbers (sym c.before.before.kind5.given.1)
 
 returns-6 : tie.Need-returns-6
-returns-6 c = c.long-numbers4.ensures ∙ ap kindNumbers (sym c.before.before.kind6.given.1)
+returns-6 c = c.long-numbers4.ensures ∙ ap kind_numbers (sym c.before.before.kind6.given.1)
 
 returns-7 : tie.Need-returns-7
-returns-7 c = c.long-numbers5.ensures ∙ ap kindNumbers (sym c.before.before.kind7.given.1)
+returns-7 c = c.long-numbers5.ensures ∙ ap kind_numbers (sym c.before.before.kind7.given.1)
 
 returns-8 : tie.Need-returns-8
-returns-8 c = c.long-numbers6.ensures ∙ ap kindNumbers (sym c.before.before.kind8.given.1)
+returns-8 c = c.long-numbers6.ensures ∙ ap kind_numbers (sym c.before.before.kind8.given.1)
 
 pub kind-numbers-spec : {M : Type 1} → statement M
 kind-numbers-spec =

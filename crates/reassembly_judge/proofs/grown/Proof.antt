@@ -1,4 +1,4 @@
-use Rattle.reassembly.proofs.Branches.{grown-is}
+use Rattle.reassembly.proofs.Branches.{grown_is}
 use borrow.Author.Rules.{rules}
 use Rattle.reassembly_judge.proofs.grown.Statement.{statement}
 use Rattle.reassembly_judge.proofs.grown.Tie as tie
@@ -24,7 +24,7 @@ pick8-requires-3 c κs = search rules
 returns : tie.Need-returns
 returns c =
     let a = c.before.before.before.before.before.before.before.before.before.args in
-    grown-is a.h a.l a.n c.before.before.before.before.before.before.before.pick32.result c.before.before.before.before.before.more_of.result c.before.before.before.before.pick8.result c.before.pick82.result c.pick83.result c.before.before.before.before.before.before.before.pick32.ensures c.before.before.before.before.before.more_of.ensures c.before.before.before.before.pick8.ensures c.before.pick82.ensures c.pick83.ensures
+    grown_is a.h a.l a.n c.before.before.before.before.before.before.before.pick32.result c.before.before.before.before.before.more_of.result c.before.before.before.before.pick8.result c.before.pick82.result c.pick83.result c.before.before.before.before.before.before.before.pick32.ensures c.before.before.before.before.before.more_of.ensures c.before.before.before.before.pick8.ensures c.before.pick82.ensures c.pick83.ensures
 
 pub grown-spec : {M : Type 1} → statement M
 grown-spec =

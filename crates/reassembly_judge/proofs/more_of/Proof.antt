@@ -1,4 +1,4 @@
-use Rattle.reassembly.specs.Judge.{moreOf}
+use Rattle.reassembly.specs.Judge.{more_of}
 use borrow.Author.Tests.{lt-ltb, le-ltb}
 use borrow.Author.Rules.{rules}
 use Rattle.reassembly_judge.proofs.more_of.Statement.{statement}
@@ -8,11 +8,11 @@ add-result : tie.Need-overflow-add-result
 add-result c = search rules
 
 returns : tie.Need-returns
-unfolding moreOf
+unfolding more_of
 returns c = simp (lt-ltb _ _ c.if1.true)
 
 returns-2 : tie.Need-returns-2
-unfolding moreOf
+unfolding more_of
 returns-2 c = simp (le-ltb _ _ c.if1.false)
 
 pub more-of-spec : {M : Type 1} → statement M

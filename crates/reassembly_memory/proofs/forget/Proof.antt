@@ -2,15 +2,15 @@ use native.Mathlib.Omega.{arith}
 use mathlib.Core.Path.{◌≡◌}
 use Prim.Native.Nat.{◌≤◌, ◌-◌}
 use lib.ListN.{length}
-use Rattle.reassembly.specs.Sizes.{mostRemembered, shareSize}
-use Rattle.reassembly.specs.Remembered.{rememberedCount, sifted, siftedTo}
-use Rattle.reassembly_memory.proofs.Branches.{sifted-turn, sifted-end}
+use Rattle.reassembly.specs.Sizes.{most_remembered, share_size}
+use Rattle.reassembly.specs.Remembered.{remembered_count, sifted, sifted_to}
+use Rattle.reassembly_memory.proofs.Branches.{sifted_turn, sifted_end}
 use borrow.Author.Rules.{rules}
 use Rattle.reassembly_memory.proofs.forget.Statement.{statement}
 use Rattle.reassembly_memory.proofs.forget.Tie as tie
 
 abbrev invariant-loop : tie.invariant-loop
-invariant-loop rec₀ second n kept₀ k₀ rec kept k = (k ≤ n) × (n ≤ mostRemembered) × (kept ≤ k) × (length rec ≡ length rec₀) × (shareSize ≤ length rec₀) × (n ≡ rememberedCount rec₀) × (sifted rec kept ≡ siftedTo second rec₀ k)
+invariant-loop rec₀ second n kept₀ k₀ rec kept k = (k ≤ n) × (n ≤ most_remembered) × (kept ≤ k) × (length rec ≡ length rec₀) × (share_size ≤ length rec₀) × (n ≡ remembered_count rec₀) × (sifted rec kept ≡ sifted_to second rec₀ k)
 
 abbrev decreases-loop : tie.decreases-loop
 decreases-loop rec₀ second n kept₀ k₀ rec kept k = n - k
@@ -35,7 +35,7 @@ loop-again c =
     let a = c.before.before.before.before.before.before.before.before.before.args in
     let l = c.before.before.before.before.before.loop in
     let one = c.before.before.sift-one in
-    (search rules, search rules, search rules, search rules, search rules, search rules, sifted-turn a.rec.now a.second l.k l.auto one.result l.rec one.new.0 l.invariant.6 one.ensures.0)
+    (search rules, search rules, search rules, search rules, search rules, search rules, sifted_turn a.rec.now a.second l.k l.auto one.result l.rec one.new.0 l.invariant.6 one.ensures.0)
 
 save-count-requires : tie.Need-save-count-requires invariant-loop decreases-loop
 save-count-requires c κs = search rules
@@ -47,7 +47,7 @@ returns : tie.Need-returns invariant-loop decreases-loop
 returns c =
     let a = c.before.before.before.before.before.before.before.before.before.args in
     let l = c.before.before.before.before.before.loop in
-    sifted-end a.rec.now a.second l.k l.auto l.rec c.before.before.save-count.new.0 l.invariant.6 (omega arith) c.before.before.save-count.ensures
+    sifted_end a.rec.now a.second l.k l.auto l.rec c.before.before.save-count.new.0 l.invariant.6 (omega arith) c.before.before.save-count.ensures
 
 pub forget-spec : {M : Type 1} → statement M
 forget-spec =

@@ -1,4 +1,4 @@
-use Rattle.reassembly.specs.Remembered.{finishedAt}
+use Rattle.reassembly.specs.Remembered.{finished_at}
 use borrow.Author.Rules.{rules}
 use Rattle.reassembly_memory.proofs.id_at.Statement.{statement}
 use Rattle.reassembly_memory.proofs.id_at.Tie as tie
@@ -13,7 +13,7 @@ le-u32-requires : tie.Need-le-u32-requires
 le-u32-requires c κs = search rules
 
 returns : tie.Need-returns
-unfolding finishedAt
+unfolding finished_at
 returns c = cc
 
 pub id-at-spec : {M : Type 1} → statement M

@@ -1,4 +1,4 @@
-use Rattle.reassembly.specs.Remembered.{withFinished}
+use Rattle.reassembly.specs.Remembered.{with_finished}
 use borrow.Author.Rules.{rules}
 use Rattle.reassembly_memory.proofs.put.Statement.{statement}
 use Rattle.reassembly_memory.proofs.put.Tie as tie
@@ -25,7 +25,7 @@ same_length : tie.Need-same-length
 same_length c = search rules
 
 returns : tie.Need-returns
-unfolding withFinished
+unfolding with_finished
 returns c = cc
 
 pub put_spec : {M : Type 1} → statement M

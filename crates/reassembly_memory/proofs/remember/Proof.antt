@@ -1,4 +1,4 @@
-use Rattle.reassembly_memory.proofs.Branches.{with-room, pushed-out}
+use Rattle.reassembly_memory.proofs.Branches.{with_room, pushed_out}
 use borrow.Author.Rules.{rules}
 use Rattle.reassembly_memory.proofs.remember.Statement.{statement}
 use Rattle.reassembly_memory.proofs.remember.Tie as tie
@@ -22,7 +22,7 @@ returns : tie.Need-returns
 returns c =
     let a = c.before.before.before.before.before.before.before.before.before.before.before.before.args in
     let n = c.before.before.before.before.before.before.before.before.before.count_of in
-    with-room a.rec.now n.result a.id a.second c.before.before.before.before.before.before.put.new.0 c.before.before.save-count.new.0 n.ensures.0 c.before.before.before.before.before.before.before.before.if1.true c.before.before.before.before.before.before.put.ensures c.before.before.save-count.ensures
+    with_room a.rec.now n.result a.id a.second c.before.before.before.before.before.before.put.new.0 c.before.before.save-count.new.0 n.ensures.0 c.before.before.before.before.before.before.before.before.if1.true c.before.before.before.before.before.before.put.ensures c.before.before.save-count.ensures
 
 move-to-requires : tie.Need-move-to-requires
 move-to-requires c κs = search rules
@@ -40,7 +40,7 @@ returns-2 : tie.Need-returns-2
 returns-2 c =
     let a = c.before.before.before.before.before.before.before.before.before.before.before.before.before.before.before.before.args in
     let n = c.before.before.before.before.before.before.before.before.before.before.before.before.before.count_of in
-    pushed-out a.rec.now n.result a.id a.second c.before.before.before.before.before.before.before.before.before.before.move-to.new.0 c.before.before.before.before.before.before.put2.new.0 c.before.before.save-count2.new.0 n.ensures.0 c.before.before.before.before.before.before.before.before.before.before.before.before.if1.false c.before.before.before.before.before.before.before.before.before.before.move-to.ensures c.before.before.before.before.before.before.put2.ensures c.before.before.save-count2.ensures
+    pushed_out a.rec.now n.result a.id a.second c.before.before.before.before.before.before.before.before.before.before.move-to.new.0 c.before.before.before.before.before.before.put2.new.0 c.before.before.save-count2.new.0 n.ensures.0 c.before.before.before.before.before.before.before.before.before.before.before.before.if1.false c.before.before.before.before.before.before.before.before.before.before.move-to.ensures c.before.before.before.before.before.before.put2.ensures c.before.before.save-count2.ensures
 
 pub remember-spec : {M : Type 1} → statement M
 remember-spec =

@@ -1,20 +1,20 @@
 use native.Mathlib.Omega.{arith}
 use mathlib.Core.Path.{◌≡◌, refl}
 use Prim.Native.Nat.{◌≤◌, ◌-◌}
-use Rattle.reassembly.specs.Sizes.{mostRemembered}
+use Rattle.reassembly.specs.Sizes.{most_remembered}
 use Rattle.wire.specs.Series.{series}
 use Rattle.reassembly.specs.Memory.{remembers}
-use Rattle.reassembly.specs.Remembered.{rememberedCount, finishedAt}
-use Rattle.reassembly_memory.proofs.Branches.{found_turn, found-end}
+use Rattle.reassembly.specs.Remembered.{remembered_count, finished_at}
+use Rattle.reassembly_memory.proofs.Branches.{found_turn, found_end}
 use borrow.Author.Rules.{rules}
 use Rattle.reassembly_memory.proofs.remembers.Statement.{statement}
 use Rattle.reassembly_memory.proofs.remembers.Tie as tie
 
 abbrev invariant-loop : tie.invariant-loop
-invariant-loop rec id count found₀ k₀ found k = (k ≤ count) × (count ≡ rememberedCount rec) × (count ≤ mostRemembered) × (found ≡ remembers (series (finishedAt rec) 0 k) id)
+invariant-loop rec id count found₀ k₀ found k = (k ≤ count) × (count ≡ remembered_count rec) × (count ≤ most_remembered) × (found ≡ remembers (series (finished_at rec) 0 k) id)
 
 abbrev decreases-loop : tie.decreases-loop
-decreases-loop rec id count found₀ k₀ found k = mostRemembered - k
+decreases-loop rec id count found₀ k₀ found k = most_remembered - k
 
 count-of-requires : tie.Need-count-of-requires invariant-loop decreases-loop
 count-of-requires c κs = search rules
@@ -42,7 +42,7 @@ returns : tie.Need-returns invariant-loop decreases-loop
 returns c =
     let a = c.before.before.before.before.args in
     let l = c.before.loop in
-    found-end a.rec.now a.id l.k l.found l.invariant.3 (omega arith)
+    found_end a.rec.now a.id l.k l.found l.invariant.3 (omega arith)
 
 pub remembers-spec : {M : Type 1} → statement M
 remembers-spec =

@@ -1,8 +1,8 @@
 use native.Mathlib.Omega.{arith}
 use mathlib.Core.List.{[]}
-use Rattle.wire.proofs.Parts.{stores-splice}
-use Rattle.reassembly.specs.Sizes.{countAt}
-use Rattle.reassembly.specs.Remembered.{withCount}
+use Rattle.wire.proofs.Parts.{stores_splice}
+use Rattle.reassembly.specs.Sizes.{count_at}
+use Rattle.reassembly.specs.Remembered.{with_count}
 use borrow.Author.Rules.{rules}
 use Rattle.reassembly_memory.proofs.save_count.Statement.{statement}
 use Rattle.reassembly_memory.proofs.save_count.Tie as tie
@@ -17,8 +17,8 @@ same_length : tie.Need-same-length
 same_length c = search rules
 
 returns : tie.Need-returns
-unfolding withCount
-returns c = stores-splice c.args.rec.now countAt c.args.n [] (omega arith)
+unfolding with_count
+returns c = stores_splice c.args.rec.now count_at c.args.n [] (omega arith)
 
 pub save-count-spec : {M : Type 1} → statement M
 save-count-spec = tie.close (tie.spec cast-rec slice-write-rec same_length returns)

@@ -1,4 +1,4 @@
-use Rattle.reassembly_memory.proofs.Branches.{passed-by, kept-one}
+use Rattle.reassembly_memory.proofs.Branches.{passed_by, kept_one}
 use borrow.Author.Rules.{rules}
 use Rattle.reassembly_memory.proofs.sift_one.Statement.{statement}
 use Rattle.reassembly_memory.proofs.sift_one.Tie as tie
@@ -17,7 +17,7 @@ returns c =
     let a = c.before.before.before.before.before.args in
     let s = c.before.before.second_at in
     let due = c.before.long-ago in
-    (passed-by a.rec.now a.second a.kept a.k s.result due.result s.ensures due.ensures c.if1.true, search rules)
+    (passed_by a.rec.now a.second a.kept a.k s.result due.result s.ensures due.ensures c.if1.true, search rules)
 
 move-to-requires : tie.Need-move-to-requires
 move-to-requires c κs = search rules
@@ -33,7 +33,7 @@ returns-2 c =
     let a = c.before.before.before.before.before.before.before.before.before.args in
     let s = c.before.before.before.before.before.before.second_at in
     let due = c.before.before.before.before.before.long-ago in
-    (kept-one a.rec.now a.second a.kept a.k s.result due.result s.ensures due.ensures c.before.before.move-to.new.0 c.before.before.before.before.if1.false c.before.before.move-to.ensures, search rules)
+    (kept_one a.rec.now a.second a.kept a.k s.result due.result s.ensures due.ensures c.before.before.move-to.new.0 c.before.before.before.before.if1.false c.before.before.move-to.ensures, search rules)
 
 pub sift-one-spec : {M : Type 1} → statement M
 sift-one-spec =

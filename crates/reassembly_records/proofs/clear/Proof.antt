@@ -4,7 +4,7 @@ use lib.ListN.{length, length-set, replicate}
 use lib.Seq.{paste, paste-zero}
 use mathlib.Core.Path.{◌≡◌, refl}
 use Prim.Native.Nat.{◌≤◌, ◌-◌, ◌+◌}
-use Rattle.wire.proofs.Zeros.{zero_turn, zero-end}
+use Rattle.wire.proofs.Zeros.{zero_turn, zero_end}
 use Rattle.reassembly_records.proofs.clear.Statement.{statement}
 use Rattle.reassembly_records.proofs.clear.Tie as tie
 
@@ -41,7 +41,7 @@ same_length c = search rules
 returns : tie.Need-returns invariant-loop decreases-loop
 returns c =
     let a = c.before.before.args in
-    zero-end a.b.now c.before.loop.b a.at a.n c.before.loop.i c.before.loop.invariant.3 (omega arith)
+    zero_end a.b.now c.before.loop.b a.at a.n c.before.loop.i c.before.loop.invariant.3 (omega arith)
 
 pub clear_spec : {M : Type 1} → statement M
 clear_spec =

@@ -1,4 +1,4 @@
-use Rattle.reassembly.specs.Record.{entryOf}
+use Rattle.reassembly.specs.Record.{entry_of}
 use borrow.Author.Rules.{rules}
 use Rattle.reassembly_records.proofs.entry_of.Statement.{statement}
 use Rattle.reassembly_records.proofs.entry_of.Tie as tie
@@ -10,7 +10,7 @@ le-u16-requires-2 : tie.Need-le-u16-requires-2
 le-u16-requires-2 c κs = search rules
 
 returns : tie.Need-returns
-unfolding entryOf
+unfolding entry_of
 returns c = cc
 
 pub entry-of-spec : {M : Type 1} → statement M

@@ -1,4 +1,4 @@
-use Rattle.reassembly.specs.Record.{headOf}
+use Rattle.reassembly.specs.Record.{head_of}
 use borrow.Author.Rules.{rules}
 use Rattle.reassembly_records.proofs.head_of.Statement.{statement}
 use Rattle.reassembly_records.proofs.head_of.Tie as tie
@@ -28,7 +28,7 @@ shared-slice-read-t13 : tie.Need-shared-slice-read-t13
 shared-slice-read-t13 c = search rules
 
 returns : tie.Need-returns
-unfolding headOf
+unfolding head_of
 returns c = cc
 
 pub head-of-spec : {M : Type 1} → statement M

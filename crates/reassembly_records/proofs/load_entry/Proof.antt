@@ -1,8 +1,8 @@
 use mathlib.Core.Path.{ap, ◌∙◌}
 use Prim.Native.Nat.{◌+◌, ◌*◌}
 use Rattle.wire.proofs.Slices.{slice_is}
-use Rattle.reassembly.specs.Sizes.{entrySize}
-use Rattle.reassembly.specs.Record.{entryPlace, entry_at, entryOf}
+use Rattle.reassembly.specs.Sizes.{entry_size}
+use Rattle.reassembly.specs.Record.{entry_place, entry_at, entry_of}
 use borrow.Author.Rules.{rules}
 use Rattle.reassembly_records.proofs.load_entry.Statement.{statement}
 use Rattle.reassembly_records.proofs.load_entry.Tie as tie
@@ -38,7 +38,7 @@ returns : tie.Need-returns
 unfolding entry_at
 returns c =
     let a = c.before.before.before.args in
-    c.entry_of.ensures ∙ ap entryOf (slice_is a.rec.now (entryPlace a.i a.k) entrySize)
+    c.entry_of.ensures ∙ ap entry_of (slice_is a.rec.now (entry_place a.i a.k) entry_size)
 
 pub load-entry-spec : {M : Type 1} → statement M
 load-entry-spec =

@@ -1,8 +1,8 @@
 use mathlib.Core.Path.{ap, ◌∙◌}
 use Prim.Native.Nat.{◌*◌}
 use Rattle.wire.proofs.Slices.{slice_is}
-use Rattle.reassembly.specs.Sizes.{headSize}
-use Rattle.reassembly.specs.Record.{headAt, headOf}
+use Rattle.reassembly.specs.Sizes.{head_size}
+use Rattle.reassembly.specs.Record.{head_at, head_of}
 use borrow.Author.Rules.{rules}
 use Rattle.reassembly_records.proofs.load_head.Statement.{statement}
 use Rattle.reassembly_records.proofs.load_head.Tie as tie
@@ -26,10 +26,10 @@ head-of-requires : tie.Need-head-of-requires
 head-of-requires c κs = search rules
 
 returns : tie.Need-returns
-unfolding headAt
+unfolding head_at
 returns c =
     let a = c.before.before.before.args in
-    c.head_of.ensures ∙ ap headOf (slice_is a.rec.now (a.i * headSize) headSize)
+    c.head_of.ensures ∙ ap head_of (slice_is a.rec.now (a.i * head_size) head_size)
 
 pub load-head-spec : {M : Type 1} → statement M
 load-head-spec =

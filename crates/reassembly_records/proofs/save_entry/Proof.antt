@@ -1,6 +1,6 @@
 use Prim.Native.Nat.{◌+◌, ◌*◌}
-use Rattle.reassembly.specs.Record.{entryPlace, withEntry}
-use Rattle.reassembly.proofs.Fields.{entry-put}
+use Rattle.reassembly.specs.Record.{entry_place, with_entry}
+use Rattle.reassembly.proofs.Fields.{entry_put}
 use borrow.Author.Rules.{rules}
 use Rattle.reassembly_records.proofs.save_entry.Statement.{statement}
 use Rattle.reassembly_records.proofs.save_entry.Tie as tie
@@ -30,10 +30,10 @@ same_length : tie.Need-same-length
 same_length c = search rules
 
 returns : tie.Need-returns
-unfolding withEntry
+unfolding with_entry
 returns c =
     let a = c.before.before.before.before.before.before.before.before.before.args in
-    entry-put a.rec.now (entryPlace a.i a.k) a.e (search rules) c.before.before.before.before.before.before.put-u16-le.ensures c.before.before.put-u16-le2.ensures
+    entry_put a.rec.now (entry_place a.i a.k) a.e (search rules) c.before.before.before.before.before.before.put-u16-le.ensures c.before.before.put-u16-le2.ensures
 
 pub save-entry-spec : {M : Type 1} → statement M
 save-entry-spec =

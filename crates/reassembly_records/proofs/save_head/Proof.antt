@@ -1,7 +1,7 @@
 use Prim.Native.Nat.{◌*◌}
-use Rattle.reassembly.specs.Sizes.{headSize}
+use Rattle.reassembly.specs.Sizes.{head_size}
 use Rattle.reassembly.specs.Record.{with_head}
-use Rattle.reassembly.proofs.Fields.{head-put}
+use Rattle.reassembly.proofs.Fields.{head_put}
 use borrow.Author.Rules.{rules}
 use Rattle.reassembly_records.proofs.save_head.Statement.{statement}
 use Rattle.reassembly_records.proofs.save_head.Tie as tie
@@ -46,7 +46,7 @@ returns : tie.Need-returns
 unfolding with_head
 returns c =
     let a = c.before.before.before.before.before.before.before.before.before.before.before.before.before.before.before.before.before.before.before.before.before.before.args in
-    head-put a.rec.now (a.i * headSize) a.h (search rules)
+    head_put a.rec.now (a.i * head_size) a.h (search rules)
     c.before.before.before.before.before.before.before.before.before.before.before.before.before.before.before.before.before.before.before.put-u32-le.ensures
     c.before.before.before.before.before.before.before.before.before.before.before.before.before.before.before.put-u64-le.ensures
     c.before.before.before.before.before.before.before.before.before.before.before.put-u32-le2.ensures

@@ -1,5 +1,5 @@
-use Rattle.reassembly.specs.Sizes.{recordSize}
-use Rattle.reassembly.proofs.NewShares.{new-promise}
+use Rattle.reassembly.specs.Sizes.{record_size}
+use Rattle.reassembly.proofs.NewShares.{new_promise}
 use mathlib.Core.Path.{◌≡◌, refl}
 use borrow.Author.Tests.{lt-ltb, le-ltb}
 use mathlib.Core.Bool.{true, false}
@@ -14,9 +14,9 @@ returns : tie.Need-returns
 unfolding renewal renewed
 returns c =
     let a = c.before.before.args in
-    let t : ltb (length a.rec.now) recordSize ≡ true = lt-ltb (length a.rec.now) recordSize (search rules) in
+    let t : ltb (length a.rec.now) record_size ≡ true = lt-ltb (length a.rec.now) record_size (search rules) in
     let e : a.rec.now ≡ renewed a.rec.now = rw t refl in
-    ((rw t refl, e), new-promise a.rec.now a.rec.now e)
+    ((rw t refl, e), new_promise a.rec.now a.rec.now e)
 
 clear-requires : tie.Need-clear-requires
 clear-requires c κs = search rules
@@ -28,9 +28,9 @@ returns-2 : tie.Need-returns-2
 unfolding renewal renewed
 returns-2 c =
     let a = c.before.before.before.before.before.before.args in
-    let t : ltb (length a.rec.now) recordSize ≡ false = le-ltb (length a.rec.now) recordSize (search rules) in
+    let t : ltb (length a.rec.now) record_size ≡ false = le-ltb (length a.rec.now) record_size (search rules) in
     let e : c.before.before.clear.new.0 ≡ renewed a.rec.now = rw t c.before.before.clear.ensures in
-    ((rw t refl, e), new-promise a.rec.now c.before.before.clear.new.0 e)
+    ((rw t refl, e), new_promise a.rec.now c.before.before.clear.new.0 e)
 
 pub new_spec : {M : Type 1} → statement M
 new_spec = tie.close (tie.spec returns clear-requires same_length returns-2)

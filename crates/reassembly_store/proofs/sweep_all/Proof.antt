@@ -2,17 +2,17 @@ use mathlib.Core.Path.{◌≡◌, refl, ap, ◌∙◌}
 use Prim.Native.Nat.{◌+◌, ◌*◌, ◌≤◌, ◌-◌}
 use native.Mathlib.Omega.{arith}
 use lib.ListN.{length}
-use Rattle.reassembly.specs.Sizes.{shareSize, recordSize}
-use Rattle.reassembly.specs.Calls.{shareSwept}
-use Rattle.reassembly.specs.Shares.{withShare, sharesSwept}
-use Rattle.reassembly.proofs.Shares.{share-lent, share_back}
-use Rattle.reassembly.proofs.SharesSwept.{shares-more}
+use Rattle.reassembly.specs.Sizes.{share_size, record_size}
+use Rattle.reassembly.specs.Calls.{share_swept}
+use Rattle.reassembly.specs.Shares.{with_share, shares_swept}
+use Rattle.reassembly.proofs.Shares.{share_lent, share_back}
+use Rattle.reassembly.proofs.SharesSwept.{shares_more}
 use borrow.Author.Rules.{rules}
 use Rattle.reassembly_store.proofs.sweep_all.Statement.{statement}
 use Rattle.reassembly_store.proofs.sweep_all.Tie as tie
 
 abbrev invariant-loop : tie.invariant-loop
-invariant-loop rec₀ second n₀ rec n = (n ≤ 4) × (length rec ≡ length rec₀) × (recordSize ≤ length rec₀) × (rec ≡ sharesSwept second rec₀ n)
+invariant-loop rec₀ second n₀ rec n = (n ≤ 4) × (length rec ≡ length rec₀) × (record_size ≤ length rec₀) × (rec ≡ shares_swept second rec₀ n)
 
 abbrev decreases-loop : tie.decreases-loop
 decreases-loop rec₀ second n₀ rec n = 4 - n
@@ -52,9 +52,9 @@ loop-again c =
       search rules,
       search rules,
       search rules,
-      shares-more a.second a.rec.now l.rec _ l.n l.invariant.3
-          (share_back l.rec l.n (l.n * shareSize) (l.n * shareSize + shareSize) refl refl s.new.0 (search rules)
-          ∙ ap (withShare l.rec l.n) (s.ensures ∙ ap (shareSwept a.second) (share-lent l.rec l.n (l.n * shareSize) (l.n * shareSize + shareSize) refl refl))),
+      shares_more a.second a.rec.now l.rec _ l.n l.invariant.3
+          (share_back l.rec l.n (l.n * share_size) (l.n * share_size + share_size) refl refl s.new.0 (search rules)
+          ∙ ap (with_share l.rec l.n) (s.ensures ∙ ap (share_swept a.second) (share_lent l.rec l.n (l.n * share_size) (l.n * share_size + share_size) refl refl))),
     )
 
 same_length : tie.Need-same-length invariant-loop decreases-loop
@@ -63,7 +63,7 @@ same_length c = search rules
 returns : tie.Need-returns invariant-loop decreases-loop
 returns c =
     let e : c.before.loop.n ≡ 4 = omega arith in
-    c.before.loop.invariant.3 ∙ ap (sharesSwept c.before.before.before.args.second c.before.before.before.args.rec.now) e
+    c.before.loop.invariant.3 ∙ ap (shares_swept c.before.before.before.args.second c.before.before.before.args.rec.now) e
 
 pub sweep-all-spec : {M : Type 1} → statement M
 sweep-all-spec =

@@ -1,4 +1,4 @@
-use Rattle.reassembly.specs.Calls.{shareSwept}
+use Rattle.reassembly.specs.Calls.{share_swept}
 use borrow.Author.Rules.{rules}
 use Rattle.reassembly_store.proofs.sweep_share.Statement.{statement}
 use Rattle.reassembly_store.proofs.sweep_share.Tie as tie
@@ -13,7 +13,7 @@ same_length : tie.Need-same-length
 same_length c = search rules
 
 returns : tie.Need-returns
-unfolding shareSwept
+unfolding share_swept
 returns c = cc
 
 pub sweep-share-spec : {M : Type 1} → statement M

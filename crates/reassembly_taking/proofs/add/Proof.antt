@@ -1,5 +1,5 @@
 use Rattle.reassembly.specs.Calls.{lent, after}
-use Rattle.reassembly.proofs.Branches.{added-again, added-55, added-put}
+use Rattle.reassembly.proofs.Branches.{added_again, added_55, added_put}
 use borrow.Author.Rules.{rules}
 use Rattle.reassembly_taking.proofs.add.Statement.{statement}
 use Rattle.reassembly_taking.proofs.add.Tie as tie
@@ -28,7 +28,7 @@ same-length-2 c = search rules
 returns : tie.Need-returns
 returns c =
     let a = c.before.before.before.before.before.before.before.before.before.before.before.before.before.before.before.args in
-    added-again a.rec.now a.room.now a.out.now a.i a.l a.bytes.now c.before.before.before.before.before.before.before.before.before.load-head.result c.before.before.before.before.before.before.before.before.usize-from-u8.result c.before.before.before.before.before.before.load-entry.result c.before.before.before.before.before.before.before.before.before.load-head.ensures c.before.before.before.before.before.before.before.before.usize-from-u8.ensures.0 c.before.before.before.before.before.before.load-entry.ensures c.bare.result c.before.compare.result c.before.before.before.before.if1.true c.before.compare.ensures c.bare.ensures
+    added_again a.rec.now a.room.now a.out.now a.i a.l a.bytes.now c.before.before.before.before.before.before.before.before.before.load-head.result c.before.before.before.before.before.before.before.before.usize-from-u8.result c.before.before.before.before.before.before.load-entry.result c.before.before.before.before.before.before.before.before.before.load-head.ensures c.before.before.before.before.before.before.before.before.usize-from-u8.ensures.0 c.before.before.before.before.before.before.load-entry.ensures c.bare.result c.before.compare.result c.before.before.before.before.if1.true c.before.compare.ensures c.bare.ensures
 
 misfits-requires : tie.Need-misfits-requires
 misfits-requires c κs = search rules
@@ -42,7 +42,7 @@ same-length-3 c = search rules
 returns-2 : tie.Need-returns-2
 returns-2 c =
     let a = c.before.before.before.before.before.before.before.before.before.before.before.before.before.before.args in
-    added-55 a.rec.now a.room.now a.out.now a.i a.l a.bytes.now c.before.before.before.before.before.before.before.before.load-head.result c.before.before.before.before.before.before.before.usize-from-u8.result c.before.before.before.before.before.load-entry.result c.before.before.before.before.before.before.before.before.load-head.ensures c.before.before.before.before.before.before.before.usize-from-u8.ensures.0 c.before.before.before.before.before.load-entry.ensures c.bare2.result c.before.before.misfits.result c.before.before.before.if1.false c.before.before.misfits.ensures c.before.if2.true c.bare2.ensures
+    added_55 a.rec.now a.room.now a.out.now a.i a.l a.bytes.now c.before.before.before.before.before.before.before.before.load-head.result c.before.before.before.before.before.before.before.usize-from-u8.result c.before.before.before.before.before.load-entry.result c.before.before.before.before.before.before.before.before.load-head.ensures c.before.before.before.before.before.before.before.usize-from-u8.ensures.0 c.before.before.before.before.before.load-entry.ensures c.bare2.result c.before.before.misfits.result c.before.before.before.if1.false c.before.before.misfits.ensures c.before.if2.true c.bare2.ensures
 
 put-requires : tie.Need-put-requires
 put-requires c κs = search rules
@@ -59,7 +59,7 @@ same-length-6 c = search rules
 returns-3 : tie.Need-returns-3
 returns-3 c =
     let a = c.before.before.before.before.before.before.before.before.before.before.before.before.before.before.before.before.before.before.before.before.before.before.before.args in
-    added-put a.rec.now a.room.now a.out.now a.i a.l a.bytes.now c.before.before.before.before.before.before.before.before.before.before.before.before.before.before.before.before.before.load-head.result c.before.before.before.before.before.before.before.before.before.before.before.before.before.before.before.before.usize-from-u8.result c.before.before.before.before.before.before.before.before.before.before.before.before.before.before.load-entry.result c.before.before.before.before.before.before.before.before.before.before.before.before.before.before.before.before.before.load-head.ensures c.before.before.before.before.before.before.before.before.before.before.before.before.before.before.before.before.usize-from-u8.ensures.0 c.before.before.before.before.before.before.before.before.before.before.before.before.before.before.load-entry.ensures (after c.before.before.before.before.before.before.put.result (lent c.before.before.before.before.before.before.put.new.0 c.before.before.before.before.before.before.put.new.1.0 c.before.before.before.before.before.before.put.new.1.1.0)) c.before.before.before.before.before.before.before.before.before.before.before.misfits.result c.before.before.before.before.before.before.before.before.before.before.before.before.if1.false c.before.before.before.before.before.before.before.before.before.before.before.misfits.ensures c.before.before.before.before.before.before.before.before.before.before.if2.false c.before.before.before.before.before.before.put.ensures
+    added_put a.rec.now a.room.now a.out.now a.i a.l a.bytes.now c.before.before.before.before.before.before.before.before.before.before.before.before.before.before.before.before.before.load-head.result c.before.before.before.before.before.before.before.before.before.before.before.before.before.before.before.before.usize-from-u8.result c.before.before.before.before.before.before.before.before.before.before.before.before.before.before.load-entry.result c.before.before.before.before.before.before.before.before.before.before.before.before.before.before.before.before.before.load-head.ensures c.before.before.before.before.before.before.before.before.before.before.before.before.before.before.before.before.usize-from-u8.ensures.0 c.before.before.before.before.before.before.before.before.before.before.before.before.before.before.load-entry.ensures (after c.before.before.before.before.before.before.put.result (lent c.before.before.before.before.before.before.put.new.0 c.before.before.before.before.before.before.put.new.1.0 c.before.before.before.before.before.before.put.new.1.1.0)) c.before.before.before.before.before.before.before.before.before.before.before.misfits.result c.before.before.before.before.before.before.before.before.before.before.before.before.if1.false c.before.before.before.before.before.before.before.before.before.before.before.misfits.ensures c.before.before.before.before.before.before.before.before.before.before.if2.false c.before.before.before.before.before.before.put.ensures
 
 pub add_spec : {M : Type 1} → statement M
 add_spec =

@@ -1,6 +1,6 @@
 use mathlib.Core.Path.{sym, ap, ◌∙◌}
 use Rattle.reassembly.specs.Record.{outside}
-use Rattle.reassembly.proofs.Branches.{compared-59, compared-again}
+use Rattle.reassembly.proofs.Branches.{compared_59, compared_again}
 use borrow.Author.Rules.{rules}
 use Rattle.reassembly_taking.proofs.compare.Statement.{statement}
 use Rattle.reassembly_taking.proofs.compare.Tie as tie
@@ -17,7 +17,7 @@ outside-requires c κs = search rules
 returns : tie.Need-returns
 returns c =
     let a = c.before.before.before.before.before.before.before.args in
-    compared-59 a.rec.now a.room.now a.i a.h a.l a.bytes.now c.before.before.before.usize-from-u8.result c.before.before.load-entry.result c.before.outside.result c.before.before.before.usize-from-u8.ensures.0 c.before.before.load-entry.ensures c.before.outside.ensures c.if1.true
+    compared_59 a.rec.now a.room.now a.i a.h a.l a.bytes.now c.before.before.before.usize-from-u8.result c.before.before.load-entry.result c.before.outside.result c.before.before.before.usize-from-u8.ensures.0 c.before.before.load-entry.ensures c.before.outside.ensures c.if1.true
 
 piece-requires : tie.Need-piece-requires
 piece-requires c κs =
@@ -29,7 +29,7 @@ again-requires c κs = search rules
 returns-2 : tie.Need-returns-2
 returns-2 c =
     let a = c.before.before.before.before.before.before.before.before.before.args in
-    compared-again a.rec.now a.room.now a.i a.h a.l a.bytes.now c.before.before.before.before.before.usize-from-u8.result c.before.before.before.before.load-entry.result c.before.before.before.outside.result c.before.before.before.before.before.usize-from-u8.ensures.0 c.before.before.before.before.load-entry.ensures c.before.before.before.outside.ensures c.again.result c.before.piece.result.now c.before.before.if1.false c.before.piece.ensures c.again.ensures
+    compared_again a.rec.now a.room.now a.i a.h a.l a.bytes.now c.before.before.before.before.before.usize-from-u8.result c.before.before.before.before.load-entry.result c.before.before.before.outside.result c.before.before.before.before.before.usize-from-u8.ensures.0 c.before.before.before.before.load-entry.ensures c.before.before.before.outside.ensures c.again.result c.before.piece.result.now c.before.before.if1.false c.before.piece.ensures c.again.ensures
 
 pub compare-spec : {M : Type 1} → statement M
 compare-spec =

@@ -2,7 +2,7 @@ use mathlib.Core.Path.{sym, ◌∙◌}
 use native.Mathlib.Omega.{arith}
 use Prim.Native.Nat.{◌+◌}
 use Rattle.reassembly.proofs.Joined.{measured}
-use Rattle.reassembly.proofs.Branches.{finished-59, finished-short, finished-out}
+use Rattle.reassembly.proofs.Branches.{finished_59, finished_short, finished_out}
 use borrow.Author.Rules.{rules}
 use Rattle.reassembly_taking.proofs.finish.Statement.{statement}
 use Rattle.reassembly_taking.proofs.finish.Tie as tie
@@ -25,7 +25,7 @@ same_length c = search rules
 returns : tie.Need-returns
 returns c =
     let a = c.before.before.before.before.before.before.before.before.before.before.args in
-    finished-59 a.rec.now a.room.now a.out.now a.i a.l a.g a.bytes.now c.bare.result c.before.before.measure.result.outside c.before.before.before.before.before.usize-from-u8.result c.before.before.before.before.usize-from-u82.result c.before.before.before.before.before.usize-from-u8.ensures.0 c.before.before.before.before.usize-from-u82.ensures.0 c.before.before.measure.ensures.0 c.before.if1.true c.bare.ensures
+    finished_59 a.rec.now a.room.now a.out.now a.i a.l a.g a.bytes.now c.bare.result c.before.before.measure.result.outside c.before.before.before.before.before.usize-from-u8.result c.before.before.before.before.usize-from-u82.result c.before.before.before.before.before.usize-from-u8.ensures.0 c.before.before.before.before.usize-from-u82.ensures.0 c.before.before.measure.ensures.0 c.before.if1.true c.bare.ensures
 
 bare-requires-2 : tie.Need-bare-requires-2
 bare-requires-2 c κs = search rules
@@ -39,7 +39,7 @@ returns-2 c =
     let a = start.args in
     let m = c.before.before.before.before.measure in
     let inside = c.before.before.before.if1.false in
-    finished-short a.rec.now a.room.now a.out.now a.i a.l a.g a.bytes.now c.bare2.result m.result.outside m.result.size c.before.before.before.before.before.before.before.usize-from-u8.result c.before.before.before.before.before.before.usize-from-u82.result c.before.before.before.before.before.before.before.usize-from-u8.ensures.0 c.before.before.before.before.before.before.usize-from-u82.ensures.0 m.ensures.0 inside (measured a.rec.now a.room.now a.i c.before.before.before.before.before.before.before.usize-from-u8.result a.bytes.now (c.before.before.before.before.before.before.usize-from-u82.result + 1) m.result.outside m.result.size start.requires.1 start.requires.2 m.ensures.0 m.ensures.1 inside) (search rules) c.bare2.ensures
+    finished_short a.rec.now a.room.now a.out.now a.i a.l a.g a.bytes.now c.bare2.result m.result.outside m.result.size c.before.before.before.before.before.before.before.usize-from-u8.result c.before.before.before.before.before.before.usize-from-u82.result c.before.before.before.before.before.before.before.usize-from-u8.ensures.0 c.before.before.before.before.before.before.usize-from-u82.ensures.0 m.ensures.0 inside (measured a.rec.now a.room.now a.i c.before.before.before.before.before.before.before.usize-from-u8.result a.bytes.now (c.before.before.before.before.before.before.usize-from-u82.result + 1) m.result.outside m.result.size start.requires.1 start.requires.2 m.ensures.0 m.ensures.1 inside) (search rules) c.bare2.ensures
 
 assemble-requires : tie.Need-assemble-requires
 assemble-requires c κs =
@@ -68,7 +68,7 @@ returns-3 c =
     let a = start.args in
     let m = c.before.before.before.before.before.before.before.before.before.before.before.before.before.measure in
     let inside = c.before.before.before.before.before.before.before.before.before.before.before.before.if1.false in
-    finished-out a.rec.now a.room.now a.out.now a.i a.l a.g a.bytes.now m.result.outside m.result.size c.before.before.before.before.before.before.before.before.before.before.before.before.before.before.before.before.usize-from-u8.result c.before.before.before.before.before.before.before.before.before.before.before.before.before.before.before.usize-from-u82.result c.before.before.save-head.new.0 c.before.before.before.before.before.before.before.assemble.new.1.1.0 c.before.before.before.no-head.result c.before.before.before.before.before.before.before.before.before.before.before.before.before.before.before.before.usize-from-u8.ensures.0 c.before.before.before.before.before.before.before.before.before.before.before.before.before.before.before.usize-from-u82.ensures.0 m.ensures.0 inside (measured a.rec.now a.room.now a.i c.before.before.before.before.before.before.before.before.before.before.before.before.before.before.before.before.usize-from-u8.result a.bytes.now (c.before.before.before.before.before.before.before.before.before.before.before.before.before.before.before.usize-from-u82.result + 1) m.result.outside m.result.size start.requires.1 start.requires.2 m.ensures.0 m.ensures.1 inside) (omega (arith, c.before.before.before.before.before.before.before.before.before.before.if2.false)) c.before.before.before.before.before.before.before.assemble.ensures c.before.before.before.no-head.ensures c.before.before.save-head.ensures
+    finished_out a.rec.now a.room.now a.out.now a.i a.l a.g a.bytes.now m.result.outside m.result.size c.before.before.before.before.before.before.before.before.before.before.before.before.before.before.before.before.usize-from-u8.result c.before.before.before.before.before.before.before.before.before.before.before.before.before.before.before.usize-from-u82.result c.before.before.save-head.new.0 c.before.before.before.before.before.before.before.assemble.new.1.1.0 c.before.before.before.no-head.result c.before.before.before.before.before.before.before.before.before.before.before.before.before.before.before.before.usize-from-u8.ensures.0 c.before.before.before.before.before.before.before.before.before.before.before.before.before.before.before.usize-from-u82.ensures.0 m.ensures.0 inside (measured a.rec.now a.room.now a.i c.before.before.before.before.before.before.before.before.before.before.before.before.before.before.before.before.usize-from-u8.result a.bytes.now (c.before.before.before.before.before.before.before.before.before.before.before.before.before.before.before.usize-from-u82.result + 1) m.result.outside m.result.size start.requires.1 start.requires.2 m.ensures.0 m.ensures.1 inside) (omega (arith, c.before.before.before.before.before.before.before.before.before.before.if2.false)) c.before.before.before.before.before.before.before.assemble.ensures c.before.before.before.no-head.ensures c.before.before.save-head.ensures
 
 pub finish_spec : {M : Type 1} → statement M
 finish_spec =

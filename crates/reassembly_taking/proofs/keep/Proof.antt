@@ -1,4 +1,4 @@
-use Rattle.reassembly.proofs.Branches.{kept-is}
+use Rattle.reassembly.proofs.Branches.{kept_is}
 use borrow.Author.Rules.{rules}
 use Rattle.reassembly_taking.proofs.keep.Statement.{statement}
 use Rattle.reassembly_taking.proofs.keep.Tie as tie
@@ -33,7 +33,7 @@ same-length-2 c = search rules
 returns : tie.Need-returns
 returns c =
     let a = c.before.before.before.before.before.before.before.before.before.before.before.before.before.before.before.before.args in
-    kept-is a.rec.now c.before.before.before.before.before.before.save-entry.new.0 c.before.before.save-head.new.0 a.room.now c.before.before.before.before.before.before.before.before.before.before.copy-to.new.0 a.i a.k a.total a.g a.bytes.now c.before.before.before.before.before.before.before.before.before.before.before.usize-from-u16.result c.before.before.before.before.before.before.before.before.before.before.before.usize-from-u16.ensures.0 c.before.before.before.before.before.before.before.before.before.before.copy-to.ensures c.before.before.before.before.before.before.save-entry.ensures c.before.before.save-head.ensures
+    kept_is a.rec.now c.before.before.before.before.before.before.save-entry.new.0 c.before.before.save-head.new.0 a.room.now c.before.before.before.before.before.before.before.before.before.before.copy-to.new.0 a.i a.k a.total a.g a.bytes.now c.before.before.before.before.before.before.before.before.before.before.before.usize-from-u16.result c.before.before.before.before.before.before.before.before.before.before.before.usize-from-u16.ensures.0 c.before.before.before.before.before.before.before.before.before.before.copy-to.ensures c.before.before.before.before.before.before.save-entry.ensures c.before.before.save-head.ensures
 
 pub keep_spec : {M : Type 1} → statement M
 keep_spec =

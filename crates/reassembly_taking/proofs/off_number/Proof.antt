@@ -1,10 +1,10 @@
 use mathlib.Core.Path.{refl}
-use Rattle.reassembly.specs.Calls.{offNumber}
+use Rattle.reassembly.specs.Calls.{off_number}
 use Rattle.reassembly_taking.proofs.off_number.Statement.{statement}
 use Rattle.reassembly_taking.proofs.off_number.Tie as tie
 
 returns : tie.Need-returns
-unfolding offNumber
+unfolding off_number
 returns c = refl
 
 pub off-number-spec : {M : Type 1} → statement M

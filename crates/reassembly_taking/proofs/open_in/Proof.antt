@@ -1,7 +1,7 @@
-use Rattle.reassembly.proofs.Branches.{opened-kept}
+use Rattle.reassembly.proofs.Branches.{opened_kept}
 use Rattle.reassembly.specs.declared.Head.{Head}
 use native.Mathlib.Omega.{arith}
-use Rattle.reassembly.specs.Judge.{newHead}
+use Rattle.reassembly.specs.Judge.{new_head}
 use mathlib.Core.Path.{◌≡◌, ap}
 use borrow.Author.Rules.{rules}
 use Rattle.reassembly_taking.proofs.open_in.Statement.{statement}
@@ -17,7 +17,7 @@ cast-grown : tie.Need-overflow-cast-grown
 cast-grown c = search rules
 
 grown-requires : tie.Need-grown-requires
-unfolding newHead
+unfolding new_head
 grown-requires c κs =
     let z : c.new-head.result.total ≡ 0 = ap (λ (x : Head). x.total) c.new-head.ensures in
     omega arith
@@ -37,7 +37,7 @@ same-length-2 c = search rules
 returns : tie.Need-returns
 returns c =
     let a = c.before.before.before.before.before.before.before.before.before.before.before.before.before.before.before.before.before.args in
-    opened-kept a.rec.now a.room.now c.before.before.before.before.before.before.before.before.before.before.before.before.clear-entries.new.0 c.before.before.before.before.keep.new.0 c.before.before.before.before.keep.new.1.0 a.i c.before.before.before.before.before.usize-from-u8.result a.second a.l c.before.before.before.before.before.before.before.before.before.new-head.result c.before.before.before.before.before.before.before.before.grown.result a.bytes.now c.before.before.before.before.before.before.before.before.before.before.before.before.clear-entries.ensures c.before.before.before.before.before.before.before.before.before.new-head.ensures c.before.before.before.before.before.before.before.before.grown.ensures c.before.before.before.before.before.usize-from-u8.ensures.0 c.before.before.before.before.keep.ensures.0 c.before.before.before.before.keep.ensures.1
+    opened_kept a.rec.now a.room.now c.before.before.before.before.before.before.before.before.before.before.before.before.clear-entries.new.0 c.before.before.before.before.keep.new.0 c.before.before.before.before.keep.new.1.0 a.i c.before.before.before.before.before.usize-from-u8.result a.second a.l c.before.before.before.before.before.before.before.before.before.new-head.result c.before.before.before.before.before.before.before.before.grown.result a.bytes.now c.before.before.before.before.before.before.before.before.before.before.before.before.clear-entries.ensures c.before.before.before.before.before.before.before.before.before.new-head.ensures c.before.before.before.before.before.before.before.before.grown.ensures c.before.before.before.before.before.usize-from-u8.ensures.0 c.before.before.before.before.keep.ensures.0 c.before.before.before.before.keep.ensures.1
 
 pub open-in-spec : {M : Type 1} → statement M
 open-in-spec =

@@ -1,6 +1,6 @@
 use mathlib.Core.Path.{sym, ◌∙◌}
 use Rattle.reassembly.specs.Calls.{lent, after}
-use Rattle.reassembly.proofs.Branches.{put-53, put_whole, put-kept, whole-last}
+use Rattle.reassembly.proofs.Branches.{put_53, put_whole, put_kept, whole_last}
 use mathlib.Core.Path.{sym, ◌∙◌}
 use native.Mathlib.Omega.{arith}
 use borrow.Author.Rules.{rules}
@@ -19,7 +19,7 @@ bare-requires c κs = search rules
 returns : tie.Need-returns
 returns c =
     let a = c.before.before.before.before.before.before.before.args in
-    put-53 a.rec.now a.room.now a.out.now a.i a.h a.l a.bytes.now c.bare.result (search rules) c.bare.ensures
+    put_53 a.rec.now a.room.now a.out.now a.i a.h a.l a.bytes.now c.bare.result (search rules) c.bare.ensures
 
 cast-grown : tie.Need-overflow-cast-grown
 cast-grown c = search rules
@@ -32,7 +32,7 @@ is-complete-requires c κs = search rules
 
 finish-requires : tie.Need-finish-requires
 finish-requires c κs =
-    (search rules, search rules, search rules, whole-last c.before.before.before.before.before.grown.result (sym c.before.before.before.before.is-complete.ensures ∙ c.before.before.before.if2.true), search rules)
+    (search rules, search rules, search rules, whole_last c.before.before.before.before.before.grown.result (sym c.before.before.before.before.is-complete.ensures ∙ c.before.before.before.if2.true), search rules)
 
 same_length : tie.Need-same-length
 same_length c = search rules
@@ -66,7 +66,7 @@ same-length-5 c = search rules
 returns-3 : tie.Need-returns-3
 returns-3 c =
     let a = c.before.before.before.before.before.before.before.before.before.before.before.before.before.before.before.before.before.before.args in
-    put-kept a.rec.now a.room.now a.out.now a.i a.h a.l a.bytes.now c.bare2.result c.before.before.before.before.before.keep.new.0 c.before.before.before.before.before.keep.new.1.0 c.before.before.before.before.before.before.before.before.before.before.before.grown.result c.before.before.before.before.before.before.usize-from-u8.result (omega arith) c.before.before.before.before.before.before.before.before.before.before.before.grown.ensures (sym c.before.before.before.before.before.before.before.before.before.before.is-complete.ensures ∙ c.before.before.before.before.before.before.before.before.before.if2.false) c.before.before.before.before.before.before.usize-from-u8.ensures.0 c.before.before.before.before.before.keep.ensures.0 c.before.before.before.before.before.keep.ensures.1 c.bare2.ensures
+    put_kept a.rec.now a.room.now a.out.now a.i a.h a.l a.bytes.now c.bare2.result c.before.before.before.before.before.keep.new.0 c.before.before.before.before.before.keep.new.1.0 c.before.before.before.before.before.before.before.before.before.before.before.grown.result c.before.before.before.before.before.before.usize-from-u8.result (omega arith) c.before.before.before.before.before.before.before.before.before.before.before.grown.ensures (sym c.before.before.before.before.before.before.before.before.before.before.is-complete.ensures ∙ c.before.before.before.before.before.before.before.before.before.if2.false) c.before.before.before.before.before.before.usize-from-u8.ensures.0 c.before.before.before.before.before.keep.ensures.0 c.before.before.before.before.before.keep.ensures.1 c.bare2.ensures
 
 pub put_spec : {M : Type 1} → statement M
 put_spec =

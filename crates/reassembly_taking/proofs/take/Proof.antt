@@ -1,5 +1,5 @@
 use Rattle.reassembly.specs.Calls.{lent, after}
-use Rattle.reassembly.proofs.Branches.{taken-added, taken-opened}
+use Rattle.reassembly.proofs.Branches.{taken_added, taken_opened}
 use borrow.Author.Rules.{rules}
 use Rattle.reassembly_taking.proofs.take.Statement.{statement}
 use Rattle.reassembly_taking.proofs.take.Tie as tie
@@ -25,7 +25,7 @@ same-length-3 c = search rules
 returns : tie.Need-returns
 returns c =
     let a = c.before.before.before.before.before.before.before.before.before.before.before.before.before.before.before.before.before.before.before.before.before.args in
-    taken-added a.rec.now a.room.now a.out.now a.l a.second a.bytes.now (after c.before.before.before.before.before.before.before.before.before.before.add.result (lent c.before.before.before.before.before.before.before.before.before.before.add.new.0 c.before.before.before.before.before.before.before.before.before.before.add.new.1.0 c.before.before.before.before.before.before.before.before.before.before.add.new.1.1.0)) c.before.before.remember-finished.new.0 c.before.before.before.before.before.before.before.before.before.before.before.before.before.before.before.find.result c.before.before.before.before.before.before.before.before.before.before.before.before.before.before.before.find.ensures (search rules) c.before.before.before.before.before.before.before.before.before.before.add.ensures c.before.before.remember-finished.ensures
+    taken_added a.rec.now a.room.now a.out.now a.l a.second a.bytes.now (after c.before.before.before.before.before.before.before.before.before.before.add.result (lent c.before.before.before.before.before.before.before.before.before.before.add.new.0 c.before.before.before.before.before.before.before.before.before.before.add.new.1.0 c.before.before.before.before.before.before.before.before.before.before.add.new.1.1.0)) c.before.before.remember-finished.new.0 c.before.before.before.before.before.before.before.before.before.before.before.before.before.before.before.find.result c.before.before.before.before.before.before.before.before.before.before.before.before.before.before.before.find.ensures (search rules) c.before.before.before.before.before.before.before.before.before.before.add.ensures c.before.before.remember-finished.ensures
 
 open-requires : tie.Need-open-requires
 open-requires c κs = search rules
@@ -39,7 +39,7 @@ same-length-5 c = search rules
 returns-2 : tie.Need-returns-2
 returns-2 c =
     let a = c.before.before.before.before.before.before.before.before.before.before.before.before.before.before.args in
-    taken-opened a.rec.now a.room.now a.out.now a.l a.second a.bytes.now (after c.before.before.before.before.«open».result (lent c.before.before.before.before.«open».new.0 c.before.before.before.before.«open».new.1.0 a.out.now)) c.before.before.before.before.before.before.before.before.find.result c.before.before.before.before.before.before.before.before.find.ensures (search rules) (c.before.before.before.before.«open».ensures a.out.now)
+    taken_opened a.rec.now a.room.now a.out.now a.l a.second a.bytes.now (after c.before.before.before.before.«open».result (lent c.before.before.before.before.«open».new.0 c.before.before.before.before.«open».new.1.0 a.out.now)) c.before.before.before.before.before.before.before.before.find.result c.before.before.before.before.before.before.before.before.find.ensures (search rules) (c.before.before.before.before.«open».ensures a.out.now)
 
 pub take_spec : {M : Type 1} → statement M
 take_spec =

@@ -1,7 +1,7 @@
 use mathlib.Core.Path.{sym, ◌∙◌}
 use lib.ListN.{length}
 use Rattle.reassembly.specs.Calls.{lent, after}
-use Rattle.reassembly.proofs.Branches.{first-50, first_taken, good-size}
+use Rattle.reassembly.proofs.Branches.{first_50, first_taken_lem, good_size}
 use borrow.Author.Rules.{rules}
 use Rattle.reassembly_taking.proofs.take_first.Statement.{statement}
 use Rattle.reassembly_taking.proofs.take_first.Tie as tie
@@ -15,12 +15,12 @@ bare-requires c κs = search rules
 returns : tie.Need-returns
 returns c =
     let a = c.before.before.before.before.before.before.before.args in
-    first-50 a.rec.now a.room.now a.out.now a.l a.second a.bytes.now c.bare.result (sym c.before.before.bad-size.ensures ∙ c.before.if1.true) c.bare.ensures
+    first_50 a.rec.now a.room.now a.out.now a.l a.second a.bytes.now c.bare.result (sym c.before.before.bad-size.ensures ∙ c.before.if1.true) c.bare.ensures
 
 take-requires : tie.Need-take-requires
 take-requires c κs =
     let a = c.before.before.before.before.before.before.before.before.before.args in
-    let q = good-size (length a.bytes.now) (sym c.before.before.before.before.bad-size.ensures ∙ c.before.before.before.if1.false) in
+    let q = good_size (length a.bytes.now) (sym c.before.before.before.before.bad-size.ensures ∙ c.before.before.before.if1.false) in
     (search rules, search rules, search rules, q.1)
 
 same_length : tie.Need-same-length
@@ -35,7 +35,7 @@ same-length-3 c = search rules
 returns-2 : tie.Need-returns-2
 returns-2 c =
     let a = c.before.before.before.before.before.before.before.before.before.before.before.before.before.before.before.before.args in
-    first_taken a.rec.now a.room.now a.out.now a.l a.second a.bytes.now (after c.before.before.before.before.before.before.take.result (lent c.before.before.before.before.before.before.take.new.0 c.before.before.before.before.before.before.take.new.1.0 c.before.before.before.before.before.before.take.new.1.1.0)) (sym c.before.before.before.before.before.before.before.before.before.before.before.bad-size.ensures ∙ c.before.before.before.before.before.before.before.before.before.before.if1.false) c.before.before.before.before.before.before.take.ensures
+    first_taken_lem a.rec.now a.room.now a.out.now a.l a.second a.bytes.now (after c.before.before.before.before.before.before.take.result (lent c.before.before.before.before.before.before.take.new.0 c.before.before.before.before.before.before.take.new.1.0 c.before.before.before.before.before.before.take.new.1.1.0)) (sym c.before.before.before.before.before.before.before.before.before.before.before.bad-size.ensures ∙ c.before.before.before.before.before.before.before.before.before.before.if1.false) c.before.before.before.before.before.before.take.ensures
 
 pub take_first_spec : {M : Type 1} → statement M
 take_first_spec = tie.close (tie.spec bad-size-requires bare-requires returns take-requires same_length same-length-2 same-length-3 returns-2)

@@ -2,7 +2,7 @@ use mathlib.Core.Path.{sym, ◌∙◌}
 use lib.ListN.{length}
 use native.Mathlib.Omega.{arith}
 use Rattle.reassembly.specs.Calls.{lent, after}
-use Rattle.reassembly.proofs.Branches.{follow-50, follow-51, follow-taken, good-size, good-number}
+use Rattle.reassembly.proofs.Branches.{follow_50, follow_51, follow_taken, good_size, good_number}
 use borrow.Author.Rules.{rules}
 use Rattle.reassembly_taking.proofs.take_follow_on.Statement.{statement}
 use Rattle.reassembly_taking.proofs.take_follow_on.Tie as tie
@@ -16,7 +16,7 @@ bare-requires c κs = search rules
 returns : tie.Need-returns
 returns c =
     let a = c.before.before.before.before.before.before.before.args in
-    follow-50 a.rec.now a.room.now a.out.now a.l a.second a.bytes.now c.bare.result (sym c.before.before.bad-size.ensures ∙ c.before.if1.true) c.bare.ensures
+    follow_50 a.rec.now a.room.now a.out.now a.l a.second a.bytes.now c.bare.result (sym c.before.before.bad-size.ensures ∙ c.before.if1.true) c.bare.ensures
 
 off-number-requires : tie.Need-off-number-requires
 off-number-requires c κs = search rules
@@ -27,13 +27,13 @@ bare-requires-2 c κs = search rules
 returns-2 : tie.Need-returns-2
 returns-2 c =
     let a = c.before.before.before.before.before.before.before.before.before.args in
-    follow-51 a.rec.now a.room.now a.out.now a.l a.second a.bytes.now c.bare2.result (sym c.before.before.before.before.bad-size.ensures ∙ c.before.before.before.if1.false) (sym c.before.before.off-number.ensures ∙ c.before.if2.true) c.bare2.ensures
+    follow_51 a.rec.now a.room.now a.out.now a.l a.second a.bytes.now c.bare2.result (sym c.before.before.before.before.bad-size.ensures ∙ c.before.before.before.if1.false) (sym c.before.before.off-number.ensures ∙ c.before.if2.true) c.bare2.ensures
 
 take-requires : tie.Need-take-requires
 take-requires c κs =
     let a = c.before.before.before.before.before.before.before.before.before.before.before.args in
-    let q = good-size (length a.bytes.now) (sym c.before.before.before.before.before.before.bad-size.ensures ∙ c.before.before.before.before.before.if1.false) in
-    let k = good-number a.l.number (sym c.before.before.before.before.off-number.ensures ∙ c.before.before.before.if2.false) in
+    let q = good_size (length a.bytes.now) (sym c.before.before.before.before.before.before.bad-size.ensures ∙ c.before.before.before.before.before.if1.false) in
+    let k = good_number a.l.number (sym c.before.before.before.before.off-number.ensures ∙ c.before.before.before.if2.false) in
     (search rules, search rules, omega (arith, k.1), q.1)
 
 same_length : tie.Need-same-length
@@ -48,7 +48,7 @@ same-length-3 c = search rules
 returns-3 : tie.Need-returns-3
 returns-3 c =
     let a = c.before.before.before.before.before.before.before.before.before.before.before.before.before.before.before.before.before.before.args in
-    follow-taken a.rec.now a.room.now a.out.now a.l a.second a.bytes.now (after c.before.before.before.before.before.before.take.result (lent c.before.before.before.before.before.before.take.new.0 c.before.before.before.before.before.before.take.new.1.0 c.before.before.before.before.before.before.take.new.1.1.0)) (sym c.before.before.before.before.before.before.before.before.before.before.before.before.before.bad-size.ensures ∙ c.before.before.before.before.before.before.before.before.before.before.before.before.if1.false) (sym c.before.before.before.before.before.before.before.before.before.before.before.off-number.ensures ∙ c.before.before.before.before.before.before.before.before.before.before.if2.false) c.before.before.before.before.before.before.take.ensures
+    follow_taken a.rec.now a.room.now a.out.now a.l a.second a.bytes.now (after c.before.before.before.before.before.before.take.result (lent c.before.before.before.before.before.before.take.new.0 c.before.before.before.before.before.before.take.new.1.0 c.before.before.before.before.before.before.take.new.1.1.0)) (sym c.before.before.before.before.before.before.before.before.before.before.before.before.before.bad-size.ensures ∙ c.before.before.before.before.before.before.before.before.before.before.before.before.if1.false) (sym c.before.before.before.before.before.before.before.before.before.before.before.off-number.ensures ∙ c.before.before.before.before.before.before.before.before.before.before.if2.false) c.before.before.before.before.before.before.take.ensures
 
 pub take-follow-on-spec : {M : Type 1} → statement M
 take-follow-on-spec = tie.close (tie.spec bad-size-requires bare-requires returns off-number-requires bare-requires-2 returns-2 take-requires same_length same-length-2 same-length-3 returns-3)

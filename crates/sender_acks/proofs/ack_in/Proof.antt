@@ -1,6 +1,6 @@
 use native.Mathlib.Omega.{arith}
 use borrow.Author.Tests.{not-true, not-false}
-use Rattle.sender_acks.proofs.Branches.{too_short, goes-below, never-given, acked}
+use Rattle.sender_acks.proofs.Branches.{too_short_lem, goes_below_lem, never_given, acked}
 use borrow.Author.Rules.{rules}
 use Rattle.sender_acks.proofs.ack_in.Statement.{statement}
 use Rattle.sender_acks.proofs.ack_in.Tie as tie
@@ -8,7 +8,7 @@ use Rattle.sender_acks.proofs.ack_in.Tie as tie
 returns : tie.Need-returns
 returns c =
     let a = c.before.before.before.args in
-    too_short a.rec.now a.settled.now a.through a.count a.pairs.now (omega arith)
+    too_short_lem a.rec.now a.settled.now a.through a.count a.pairs.now (omega arith)
 
 measure-requires : tie.Need-measure-requires
 measure-requires c κs = search rules
@@ -17,7 +17,7 @@ returns-2 : tie.Need-returns-2
 returns-2 c =
     let a = c.before.before.before.before.before.before.args in
     let m = c.before.before.measure in
-    goes-below a.rec.now a.settled.now a.through a.count a.pairs.now (omega arith) m.result.within m.ensures.0 (not-true _ c.if2.true)
+    goes_below_lem a.rec.now a.settled.now a.through a.count a.pairs.now (omega arith) m.result.within m.ensures.0 (not-true _ c.if2.true)
 
 highest-of-requires : tie.Need-highest-of-requires
 highest-of-requires c κs = search rules
@@ -30,7 +30,7 @@ returns-3 c =
     let a = c.before.before.before.before.before.before.before.before.before.args in
     let m = c.before.before.before.before.before.measure in
     let h = c.before.highest-of in
-    never-given a.rec.now a.settled.now a.through a.count a.pairs.now (omega arith) m.result.within m.ensures.0 (not-false _ c.before.before.before.if2.false) h.result h.ensures (omega arith)
+    never_given a.rec.now a.settled.now a.through a.count a.pairs.now (omega arith) m.result.within m.ensures.0 (not-false _ c.before.before.before.if2.false) h.result h.ensures (omega arith)
 
 count-of-requires : tie.Need-count-of-requires
 count-of-requires c κs = search rules

@@ -1,11 +1,11 @@
 use native.Mathlib.Omega.{arith}
 use borrow.Author.Rules.{rules}
-use Rattle.sender_acks.proofs.Branches.{stays-there}
+use Rattle.sender_acks.proofs.Branches.{stays_there}
 use Rattle.sender_acks.proofs.keep_one.Statement.{statement}
 use Rattle.sender_acks.proofs.keep_one.Tie as tie
 
 returns : tie.Need-returns
-returns c = stays-there _ _ _ (omega arith) (omega arith) (omega arith)
+returns c = stays_there _ _ _ (omega arith) (omega arith) (omega arith)
 
 move-to-requires : tie.Need-move-to-requires
 move-to-requires c κs = search rules

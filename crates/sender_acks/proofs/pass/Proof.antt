@@ -5,11 +5,11 @@ use native.Mathlib.Nat.{not-suc-le-zero}
 use native.Mathlib.Omega.{arith}
 use borrow.Author.Rules.{rules}
 use Rattle.acks.specs.History.{among}
-use Rattle.acks.specs.Expanding.{ackNumbers}
+use Rattle.acks.specs.Expanding.{ack_numbers}
 use Rattle.acks.specs.Naming.{StandsAt, RunOf}
-use Rattle.acks.proofs.Naming.{stands-last, run_none}
+use Rattle.acks.proofs.Naming.{stands_last, run_none}
 use Rattle.sender_acks.specs.Unnamed.{Unnamed}
-use Rattle.sender_acks.proofs.Branches.{unnamed-more}
+use Rattle.sender_acks.proofs.Branches.{unnamed_more}
 use Rattle.sender_acks.proofs.pass.Statement.{statement}
 use Rattle.sender_acks.proofs.pass.Tie as tie
 
@@ -25,7 +25,7 @@ sub-t12 c = search rules
 loop-holds : tie.Need-loop-init invariant-loop decreases-loop
 loop-holds c =
     let a = c.before.before.args in
-    (omega arith, λ j h. absurd (not-suc-le-zero h), refl, stands-last a.through a.count a.pairs.now a.lowest (omega arith), run_none a.through a.count a.pairs.now false)
+    (omega arith, λ j h. absurd (not-suc-le-zero h), refl, stands_last a.through a.count a.pairs.now a.lowest (omega arith), run_none a.through a.count a.pairs.now false)
 
 number-at-requires : tie.Need-number-at-requires invariant-loop decreases-loop
 number-at-requires c κs = search rules
@@ -51,7 +51,7 @@ loop-again c =
     let l = c.before.before.before.before.loop in
     let number = c.before.before.number_at in
     let moved = c.before.look.ensures in
-    (omega arith, unnamed-more (among (ackNumbers a.through a.count a.pairs.now)) a.rec.now l.k number.result c.before.look.result.named l.invariant.1 number.ensures moved.1 c.if1.false, moved.0 ∙ l.invariant.2, moved.2, moved.3)
+    (omega arith, unnamed_more (among (ack_numbers a.through a.count a.pairs.now)) a.rec.now l.k number.result c.before.look.result.named l.invariant.1 number.ensures moved.1 c.if1.false, moved.0 ∙ l.invariant.2, moved.2, moved.3)
 
 returns-2 : tie.Need-returns-2 invariant-loop decreases-loop
 returns-2 c = c.before.loop.invariant

@@ -1,8 +1,8 @@
 use Prim.Native.Nat.{◌+◌, ◌-◌}
 use native.Mathlib.Omega.{arith}
 use Rattle.acks.specs.History.{among}
-use Rattle.acks.specs.Expanding.{ackNumbers}
-use Rattle.sender_acks.proofs.Branches.{passed-named, passed-kept}
+use Rattle.acks.specs.Expanding.{ack_numbers}
+use Rattle.sender_acks.proofs.Branches.{passed_named, passed_kept}
 use borrow.Author.Rules.{rules}
 use Rattle.sender_acks.proofs.settle_one.Statement.{statement}
 use Rattle.sender_acks.proofs.settle_one.Tie as tie
@@ -33,7 +33,7 @@ returns c =
     let a = c.before.before.before.before.before.before.before.args in
     let l = c.before.look in
     let n = c.before.before.number_at in
-    (passed-named (among (ackNumbers a.through a.count a.pairs.now)) a.rec.now a.settled.now (a.k - a.w.told) a.k n.result l.result.named n.ensures l.ensures.1 (a.k + 1 - (a.w.told + 1)) a.w.told (omega arith) (omega arith) c.if1.true, omega arith, l.ensures.2, l.ensures.3)
+    (passed_named (among (ack_numbers a.through a.count a.pairs.now)) a.rec.now a.settled.now (a.k - a.w.told) a.k n.result l.result.named n.ensures l.ensures.1 (a.k + 1 - (a.w.told + 1)) a.w.told (omega arith) (omega arith) c.if1.true, omega arith, l.ensures.2, l.ensures.3)
 
 sub-kept : tie.Need-overflow-sub-kept
 sub-kept c = search rules
@@ -50,7 +50,7 @@ returns-2 c =
     let l = c.before.before.before.before.before.look in
     let n = c.before.before.before.before.before.before.number_at in
     let o = c.before.before.keep_one in
-    (passed-kept (among (ackNumbers a.through a.count a.pairs.now)) a.rec.now a.settled.now (a.k - a.w.told) a.k n.result l.result.named n.ensures l.ensures.1 (a.k + 1 - l.result.told) o.new.0 (omega (arith, l.ensures.0)) c.before.before.before.before.if1.false o.ensures, omega (arith, l.ensures.0), l.ensures.2, l.ensures.3)
+    (passed_kept (among (ack_numbers a.through a.count a.pairs.now)) a.rec.now a.settled.now (a.k - a.w.told) a.k n.result l.result.named n.ensures l.ensures.1 (a.k + 1 - l.result.told) o.new.0 (omega (arith, l.ensures.0)) c.before.before.before.before.if1.false o.ensures, omega (arith, l.ensures.0), l.ensures.2, l.ensures.3)
 
 pub settle-one-spec : {M : Type 1} → statement M
 settle-one-spec =

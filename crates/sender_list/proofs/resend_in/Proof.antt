@@ -1,8 +1,8 @@
 use Rattle.std.proofs.Common.{ℕ, ◌+◌, refl, ap, arith, rules}
-use Rattle.wire.specs.Numbers.{littleAt}
-use Rattle.sender.specs.Sender.{resend, numberGiven}
-use Rattle.sender.specs.Recorded.{senderAt}
-use Rattle.sender.proofs.Lent.{short-59, refused-call, taken-call, resend-73, resend-71, resend-0}
+use Rattle.wire.specs.Numbers.{little_at}
+use Rattle.sender.specs.Sender.{resend, number_given}
+use Rattle.sender.specs.Recorded.{sender_at}
+use Rattle.sender.proofs.Lent.{short_59, refused_call_lem, taken_call_lem, resend_73, resend_71, resend_0}
 use Rattle.sender.proofs.GivenOut.{resent}
 use Rattle.sender_list.proofs.resend_in.Statement.{statement}
 use Rattle.sender_list.proofs.resend_in.Tie as tie
@@ -13,7 +13,7 @@ refused-requires c κs = search rules
 returns : tie.Need-returns
 returns c =
     let a = c.before.before.before.args in
-    refused-call a.rec.now (resend a.n a.second) c.refused.result 59 c.refused.ensures (short-59 a.rec.now (resend a.n a.second) c.before.if1.true) (omega arith)
+    refused_call_lem a.rec.now (resend a.n a.second) c.refused.result 59 c.refused.ensures (short_59 a.rec.now (resend a.n a.second) c.before.if1.true) (omega arith)
 
 count-of-requires : tie.Need-count-of-requires
 count-of-requires c κs = search rules
@@ -32,8 +32,8 @@ returns-2 c =
     let a = c.before.before.before.before.before.before.before.before.args in
     let k = c.before.before.place_of in
     let n = c.before.before.before.before.count_of in
-    refused-call a.rec.now (resend a.n a.second) c.refused2.result 73 c.refused2.ensures
-    (resend-73 a.rec.now (littleAt 4 a.rec.now 0) n.result refl n.ensures.0 c.before.before.before.before.before.before.if1.false a.n k.result k.ensures.1 a.second c.before.if2.true) (omega arith)
+    refused_call_lem a.rec.now (resend a.n a.second) c.refused2.result 73 c.refused2.ensures
+    (resend_73 a.rec.now (little_at 4 a.rec.now 0) n.result refl n.ensures.0 c.before.before.before.before.before.before.if1.false a.n k.result k.ensures.1 a.second c.before.if2.true) (omega arith)
 
 highest-of-requires : tie.Need-highest-of-requires
 highest-of-requires c κs = search rules
@@ -50,8 +50,8 @@ returns-3 c =
     let h = c.before.before.highest-of in
     let k = c.before.before.before.before.before.place_of in
     let n = c.before.before.before.before.before.before.before.count_of in
-    refused-call a.rec.now (resend a.n a.second) c.refused3.result 71 c.refused3.ensures
-    (resend-71 a.rec.now h.result n.result h.ensures n.ensures.0 c.before.before.before.before.before.before.before.before.before.if1.false a.n k.result k.ensures.1 a.second c.before.before.before.before.if2.false c.before.if3.true) (omega arith)
+    refused_call_lem a.rec.now (resend a.n a.second) c.refused3.result 71 c.refused3.ensures
+    (resend_71 a.rec.now h.result n.result h.ensures n.ensures.0 c.before.before.before.before.before.before.before.before.before.if1.false a.n k.result k.ensures.1 a.second c.before.before.before.before.if2.false c.before.if3.true) (omega arith)
 
 resends-at-requires : tie.Need-resends-at-requires
 resends-at-requires c κs = search rules
@@ -87,23 +87,23 @@ same-length-3 : tie.Need-same-length-3
 same-length-3 c = search rules
 
 returns-4 : tie.Need-returns-4
-unfolding senderAt numberGiven
+unfolding sender_at number_given
 returns-4 c =
     let a = c.before.before.before.before.before.before.before.before.before.before.before.before.before.before.before.before.before.before.before.before.before.before.before.before.before.args in
     let h = c.before.before.before.before.before.before.before.before.before.before.before.before.before.before.before.before.highest-of in
     let k = c.before.before.before.before.before.before.before.before.before.before.before.before.before.before.before.before.before.before.before.place_of in
     let n = c.before.before.before.before.before.before.before.before.before.before.before.before.before.before.before.before.before.before.before.before.before.count_of in
     let more = c.before.before.before.before.before.before.before.one_more in
-    let old = c.before.before.before.before.before.before.before.before.before.before.before.before.before.resends-at in
+    let old = c.before.before.before.before.before.before.before.before.before.before.before.before.before.resends_at in
     let long = c.before.before.before.before.before.before.before.before.before.before.before.before.before.before.before.before.before.before.before.before.before.before.before.if1.false in
     let there = c.before.before.before.before.before.before.before.before.before.before.before.before.before.before.before.before.before.before.if2.false in
     let down = c.before.before.before.before.before.before.before.before.before.before.before.move-to in
     let new = c.before.before.before.before.before.before.put-packet in
     let last = c.before.before.put-head in
-    taken-call a.rec.now (resend a.n a.second) (record { answer = 0; number = h.result + 1 }) (h.result + 1) last.new.0 refl (ap (λ (m : ℕ). m + 1) h.ensures)
+    taken_call_lem a.rec.now (resend a.n a.second) (record { answer = 0; number = h.result + 1 }) (h.result + 1) last.new.0 refl (ap (λ (m : ℕ). m + 1) h.ensures)
     (resent a.rec.now (λ i. (c.before.before.before.before.before.before.before.before.before.before.before.before.before.before.before.before.before.before.before.before.before.before.before.before.slice-known.given i).fits) long n.result h.result a.second n.ensures.0 h.ensures a.n k.result k.ensures.1 there
     old.result more.result down.new.0 new.new.0 last.new.0 old.ensures more.ensures down.ensures new.ensures last.ensures)
-    (resend-0 a.rec.now h.result n.result h.ensures n.ensures.0 long a.n k.result k.ensures.1 a.second there c.before.before.before.before.before.before.before.before.before.before.before.before.before.before.before.if3.false)
+    (resend_0 a.rec.now h.result n.result h.ensures n.ensures.0 long a.n k.result k.ensures.1 a.second there c.before.before.before.before.before.before.before.before.before.before.before.before.before.before.before.if3.false)
 
 pub resend-in-spec : {M : Type 1} → statement M
 resend-in-spec =

@@ -1,4 +1,4 @@
-use Rattle.sender.specs.Recorded.{packetAt}
+use Rattle.sender.specs.Recorded.{packet_at}
 use borrow.Author.Rules.{rules}
 use Rattle.sender_records.proofs.number_at.Statement.{statement}
 use Rattle.sender_records.proofs.number_at.Tie as tie
@@ -13,7 +13,7 @@ le-u32-requires : tie.Need-le-u32-requires
 le-u32-requires c κs = search rules
 
 returns : tie.Need-returns
-unfolding packetAt
+unfolding packet_at
 returns c = cc
 
 pub number-at-spec : {M : Type 1} → statement M

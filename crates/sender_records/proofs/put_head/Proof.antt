@@ -1,7 +1,7 @@
 use mathlib.Core.Path.{refl}
-use Rattle.wire.specs.Numbers.{littleBytes}
+use Rattle.wire.specs.Numbers.{little_bytes}
 use Rattle.wire.proofs.Parts.{puts}
-use Rattle.wire.proofs.Numbers.{length-little}
+use Rattle.wire.proofs.Numbers.{length_little}
 use borrow.Author.Rules.{rules}
 use Rattle.sender_records.proofs.put_head.Statement.{statement}
 use Rattle.sender_records.proofs.put_head.Tie as tie
@@ -21,7 +21,7 @@ same_length c = search rules
 returns : tie.Need-returns
 returns c =
     let a = c.before.before.before.before.before.before.before.before.before.args in
-    (puts a.rec.now 0 4 4 4 (littleBytes 4 a.highest) (littleBytes 4 a.count) (length-little 4 a.highest) (length-little 4 a.count) refl (search rules)
+    (puts a.rec.now 0 4 4 4 (little_bytes 4 a.highest) (little_bytes 4 a.count) (length_little 4 a.highest) (length_little 4 a.count) refl (search rules)
     c.before.before.before.before.before.before.put-u32-le.ensures c.before.before.put-u32-le2.ensures).0
 
 pub put-head-spec : {M : Type 1} → statement M

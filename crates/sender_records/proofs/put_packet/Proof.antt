@@ -2,11 +2,11 @@ use mathlib.Core.Path.{refl, ap, ◌∙◌}
 use mathlib.Core.List.{◌++◌, append_assoc}
 use Prim.Native.Nat.{◌+◌, ◌*◌}
 use Rattle.wire.specs.Parts.{splice}
-use Rattle.wire.specs.Numbers.{littleBytes}
+use Rattle.wire.specs.Numbers.{little_bytes}
 use Rattle.wire.proofs.Parts.{puts}
-use Rattle.wire.proofs.Numbers.{length-little}
-use Rattle.sender.specs.Sizes.{packetsAt, packetSize}
-use Rattle.sender.specs.Recorded.{packetBytes}
+use Rattle.wire.proofs.Numbers.{length_little}
+use Rattle.sender.specs.Sizes.{packets_at, packet_size}
+use Rattle.sender.specs.Recorded.{packet_bytes}
 use borrow.Author.Rules.{rules}
 use Rattle.sender_records.proofs.put_packet.Statement.{statement}
 use Rattle.sender_records.proofs.put_packet.Tie as tie
@@ -36,16 +36,16 @@ same_length : tie.Need-same-length
 same_length c = search rules
 
 returns : tie.Need-returns
-unfolding packetBytes
+unfolding packet_bytes
 returns c =
     let a = c.before.before.before.before.before.before.before.before.before.before.before.before.before.args in
-    let n = littleBytes 4 a.number in
-    let r = littleBytes 4 a.resends in
-    let s = littleBytes 8 a.second in
-    let at = packetsAt + a.k * packetSize in
-    let two = puts a.rec.now at 4 4 (at + 4) n r (length-little 4 a.number) (length-little 4 a.resends) refl (search rules)
+    let n = little_bytes 4 a.number in
+    let r = little_bytes 4 a.resends in
+    let s = little_bytes 8 a.second in
+    let at = packets_at + a.k * packet_size in
+    let two = puts a.rec.now at 4 4 (at + 4) n r (length_little 4 a.number) (length_little 4 a.resends) refl (search rules)
     c.before.before.before.before.before.before.before.before.before.before.put-u32-le.ensures c.before.before.before.before.before.before.put-u32-le2.ensures in
-    (puts a.rec.now at 8 8 (at + 8) (n ++ r) s two.1 (length-little 8 a.second) refl (search rules) two.0 c.before.before.put-u64-le.ensures).0
+    (puts a.rec.now at 8 8 (at + 8) (n ++ r) s two.1 (length_little 8 a.second) refl (search rules) two.0 c.before.before.put-u64-le.ensures).0
     ∙ ap (splice a.rec.now at) (append_assoc n r s)
 
 pub put-packet-spec : {M : Type 1} → statement M

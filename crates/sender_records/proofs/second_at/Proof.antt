@@ -1,4 +1,4 @@
-use Rattle.sender.specs.Recorded.{packetAt}
+use Rattle.sender.specs.Recorded.{packet_at}
 use borrow.Author.Rules.{rules}
 use Rattle.sender_records.proofs.second_at.Statement.{statement}
 use Rattle.sender_records.proofs.second_at.Tie as tie
@@ -16,7 +16,7 @@ le-u64-requires : tie.Need-le-u64-requires
 le-u64-requires c κs = search rules
 
 returns : tie.Need-returns
-unfolding packetAt
+unfolding packet_at
 returns c = cc
 
 pub second-at-spec : {M : Type 1} → statement M

@@ -1,13 +1,13 @@
 use mathlib.Core.Path.{refl}
-use Rattle.acks.proofs.Recording.{is-short, is-long}
-use Rattle.numbers_outcomes.specs.Trackers.{newAnswer, newRecord}
+use Rattle.acks.proofs.Recording.{is_short_lem, is_long}
+use Rattle.numbers_outcomes.specs.Trackers.{new_answer, new_record}
 use borrow.Author.Rules.{rules}
 use Rattle.strawhub_trackers.proofs.strawhub_tracker_new.Statement.{statement}
 use Rattle.strawhub_trackers.proofs.strawhub_tracker_new.Tie as tie
 
 returns : tie.Need-returns
-unfolding newAnswer newRecord
-returns c = rw (is-short c.before.before.args.tracker.now c.if1.true) (refl, refl)
+unfolding new_answer new_record
+returns c = rw (is_short_lem c.before.before.args.tracker.now c.if1.true) (refl, refl)
 
 slice-aggregate-copy-to : tie.Need-slice-aggregate-copy-to
 slice-aggregate-copy-to c = search rules
@@ -19,8 +19,8 @@ same_length : tie.Need-same-length
 same_length c = search rules
 
 returns-2 : tie.Need-returns-2
-unfolding newAnswer newRecord
-returns-2 c = rw (is-long _ c.before.before.before.before.before.if1.false) (refl, c.before.before.copy-to.ensures)
+unfolding new_answer new_record
+returns-2 c = rw (is_long _ c.before.before.before.before.before.if1.false) (refl, c.before.before.copy-to.ensures)
 
 pub strawhub-tracker-new-spec : {M : Type 1} → statement M
 strawhub-tracker-new-spec =

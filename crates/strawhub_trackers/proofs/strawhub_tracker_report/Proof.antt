@@ -1,6 +1,6 @@
 use mathlib.Core.Path.{ap, ◌∙◌}
 use Rattle.acks.specs.declared.AckInfo.{AckInfo}
-use Rattle.numbers_outcomes.specs.Trackers.{reportNumbers, reportPairs}
+use Rattle.numbers_outcomes.specs.Trackers.{report_numbers, report_pairs}
 use borrow.Author.Rules.{rules}
 use Rattle.strawhub_trackers.proofs.strawhub_tracker_report.Statement.{statement}
 use Rattle.strawhub_trackers.proofs.strawhub_tracker_report.Tie as tie
@@ -15,8 +15,8 @@ returns : tie.Need-returns
 returns c =
     let e = c.before.before.before.report-in.ensures in (
       c.put-report.ensures.0 ∙ ap (λ (a : AckInfo). a.number) e,
-      c.put-report.ensures.1 ∙ ap (λ (a : AckInfo). reportNumbers a c.before.before.before.before.before.args.out.now) e,
-      c.put-report.ensures.2 ∙ ap (λ (a : AckInfo). reportPairs a c.before.before.before.before.before.args.pairs.now) e,
+      c.put-report.ensures.1 ∙ ap (λ (a : AckInfo). report_numbers a c.before.before.before.before.before.args.out.now) e,
+      c.put-report.ensures.2 ∙ ap (λ (a : AckInfo). report_pairs a c.before.before.before.before.before.args.pairs.now) e,
     )
 
 pub strawhub-tracker-report-spec : {M : Type 1} → statement M

@@ -4,7 +4,7 @@ use lib.ListN.{length, length-set}
 use lib.Seq.{paste, paste-zero}
 use mathlib.Core.Path.{◌≡◌, refl}
 use Prim.Native.Nat.{◌≤◌, ◌-◌, ◌+◌}
-use Rattle.wire.proofs.Copying.{copy-turn, copy-end}
+use Rattle.wire.proofs.Copying.{copy_turn, copy_end}
 use Rattle.wire.proofs.copy_to.Statement.{statement}
 use Rattle.wire.proofs.copy_to.Tie as tie
 
@@ -37,7 +37,7 @@ loop-again c =
     let a = c.before.before.before.args in
     let i = c.before.before.loop.i in
     let x = c.before.before.loop.dst in
-    (search rules, simp length-set (search rules), refl, search rules, copy-turn a.dst.now a.src.now x a.at i c.before.before.loop.invariant.4 (omega arith) (omega arith))
+    (search rules, simp length-set (search rules), refl, search rules, copy_turn a.dst.now a.src.now x a.at i c.before.before.loop.invariant.4 (omega arith) (omega arith))
 
 same_length : tie.Need-same-length invariant-loop decreases-loop
 same_length c = search rules
@@ -45,7 +45,7 @@ same_length c = search rules
 returns : tie.Need-returns invariant-loop decreases-loop
 returns c =
     let a = c.before.before.args in
-    copy-end a.dst.now a.src.now c.before.loop.dst a.at c.before.loop.i c.before.loop.invariant.4 (omega arith)
+    copy_end a.dst.now a.src.now c.before.loop.dst a.at c.before.loop.i c.before.loop.invariant.4 (omega arith)
 
 pub copy-to-spec : {M : Type 1} → statement M
 copy-to-spec =

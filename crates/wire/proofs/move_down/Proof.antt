@@ -5,7 +5,7 @@ use lib.Seq.{paste, paste-zero}
 use mathlib.Core.Path.{◌≡◌, refl}
 use Prim.Native.Nat.{◌≤◌, ◌-◌, ◌+◌}
 use Rattle.wire.specs.Parts.{part}
-use Rattle.wire.proofs.Moving.{move-turn, move-end}
+use Rattle.wire.proofs.Moving.{move_turn, move_end}
 use Rattle.wire.proofs.move_down.Statement.{statement}
 use Rattle.wire.proofs.move_down.Tie as tie
 
@@ -40,7 +40,7 @@ loop-again : tie.Need-loop-preserved invariant-loop decreases-loop
 loop-again c =
     let a = c.before.before.before.args in
     let l = c.before.before.loop in
-    (search rules, simp length-set (search rules), search rules, search rules, move-turn a.b.now l.b a.to a.from a.n l.i l.invariant.4 (omega arith) (omega arith) (omega arith))
+    (search rules, simp length-set (search rules), search rules, search rules, move_turn a.b.now l.b a.to a.from a.n l.i l.invariant.4 (omega arith) (omega arith) (omega arith))
 
 same_length : tie.Need-same-length invariant-loop decreases-loop
 same_length c = search rules
@@ -49,7 +49,7 @@ returns : tie.Need-returns invariant-loop decreases-loop
 returns c =
     let a = c.before.before.args in
     let l = c.before.loop in
-    move-end a.b.now l.b a.to a.from a.n l.i l.invariant.4 (omega arith) (omega arith)
+    move_end a.b.now l.b a.to a.from a.n l.i l.invariant.4 (omega arith) (omega arith)
 
 pub move_down_spec : {M : Type 1} → statement M
 move_down_spec =

@@ -7,7 +7,7 @@ use mathlib.Core.Bool.{Bool, ◌&&◌}
 use mathlib.Core.Path.{◌≡◌, refl, sym, ap, ◌∙◌}
 use Prim.Native.Nat.{ℕ, ◌≤◌, ◌-◌}
 use Rattle.wire.specs.Parts.{same}
-use Rattle.wire.proofs.Same.{same_more, same-apart}
+use Rattle.wire.proofs.Same.{same_more, same_apart}
 use Rattle.wire.proofs.same_bytes.Statement.{statement}
 use Rattle.wire.proofs.same_bytes.Tie as tie
 
@@ -18,7 +18,7 @@ abbrev decreases-loop : tie.decreases-loop
 decreases-loop a b n ok₀ i₀ ok i = n - i
 
 returns : tie.Need-returns invariant-loop decreases-loop
-returns c = sym (same-apart c.before.args.a.now c.before.args.b.now c.if1.true)
+returns c = sym (same_apart c.before.args.a.now c.before.args.b.now c.if1.true)
 
 loop-holds : tie.Need-loop-init invariant-loop decreases-loop
 unfolding same

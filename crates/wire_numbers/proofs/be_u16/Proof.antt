@@ -1,6 +1,6 @@
 use native.Mathlib.Omega.{arith}
 use Rattle.wire.specs.Numbers.{big, little}
-use Rattle.wire.proofs.Numbers.{bigAt-reads}
+use Rattle.wire.proofs.Numbers.{big_at_reads}
 use borrow.Author.Rules.{rules}
 use Rattle.wire_numbers.proofs.be_u16.Statement.{statement}
 use Rattle.wire_numbers.proofs.be_u16.Tie as tie
@@ -30,7 +30,7 @@ returns : tie.Need-returns
 unfolding big little
 returns c =
     let a = c.before.before.before.before.before.args in
-    rw (bigAt-reads 1 a.b.now a.at (search rules)) (omega arith)
+    rw (big_at_reads 1 a.b.now a.at (search rules)) (omega arith)
 
 pub be-u16-spec : {M : Type 1} → statement M
 be-u16-spec =

@@ -1,5 +1,5 @@
 use native.Mathlib.Omega.{arith}
-use Rattle.wire.proofs.Numbers.{bigAt-add}
+use Rattle.wire.proofs.Numbers.{big_at_add}
 use borrow.Author.Rules.{rules}
 use Rattle.wire_numbers.proofs.be_u64.Statement.{statement}
 use Rattle.wire_numbers.proofs.be_u64.Tie as tie
@@ -28,7 +28,7 @@ add-result c = search rules
 returns : tie.Need-returns
 returns c =
     let a = c.before.before.before.before.before.args in
-    rw (bigAt-add 4 4 a.b.now a.at (search rules)) (omega arith)
+    rw (big_at_add 4 4 a.b.now a.at (search rules)) (omega arith)
 
 pub be-u64-spec : {M : Type 1} → statement M
 be-u64-spec =

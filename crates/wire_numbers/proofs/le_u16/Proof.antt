@@ -1,6 +1,6 @@
 use native.Mathlib.Omega.{arith}
 use Rattle.wire.specs.Numbers.{little}
-use Rattle.wire.proofs.Numbers.{littleAt-reads}
+use Rattle.wire.proofs.Numbers.{little_at_reads}
 use borrow.Author.Rules.{rules}
 use Rattle.wire_numbers.proofs.le_u16.Statement.{statement}
 use Rattle.wire_numbers.proofs.le_u16.Tie as tie
@@ -30,7 +30,7 @@ returns : tie.Need-returns
 unfolding little
 returns c =
     let a = c.before.before.before.before.before.args in
-    rw (littleAt-reads 1 a.b.now a.at (search rules)) (omega arith)
+    rw (little_at_reads 1 a.b.now a.at (search rules)) (omega arith)
 
 pub le-u16-spec : {M : Type 1} → statement M
 le-u16-spec =

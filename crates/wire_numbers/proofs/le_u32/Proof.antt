@@ -1,6 +1,6 @@
 use native.Mathlib.Omega.{arith}
 use Rattle.wire.specs.Numbers.{little}
-use Rattle.wire.proofs.Numbers.{littleAt-reads}
+use Rattle.wire.proofs.Numbers.{little_at_reads}
 use borrow.Author.Rules.{rules}
 use Rattle.wire_numbers.proofs.le_u32.Statement.{statement}
 use Rattle.wire_numbers.proofs.le_u32.Tie as tie
@@ -60,7 +60,7 @@ returns : tie.Need-returns
 unfolding little
 returns c =
     let a = c.before.before.before.before.before.before.before.before.before.args in
-    rw (littleAt-reads 3 a.b.now a.at (search rules)) (omega arith)
+    rw (little_at_reads 3 a.b.now a.at (search rules)) (omega arith)
 
 pub le-u32-spec : {M : Type 1} → statement M
 le-u32-spec =

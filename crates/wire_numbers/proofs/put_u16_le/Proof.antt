@@ -3,8 +3,8 @@ use mathlib.Core.List.{[], ◌∷◌}
 use Prim.Native.Nat.{◌/◌, ◌%◌}
 use lib.ListN.{length-set}
 use Rattle.wire.specs.Parts.{splice}
-use Rattle.wire.proofs.Parts.{stores-splice}
-use Rattle.wire.proofs.Numbers.{little-two}
+use Rattle.wire.proofs.Parts.{stores_splice}
+use Rattle.wire.proofs.Numbers.{little_two}
 use borrow.Author.Rules.{rules}
 use Rattle.wire_numbers.proofs.put_u16_le.Statement.{statement}
 use Rattle.wire_numbers.proofs.put_u16_le.Tie as tie
@@ -31,8 +31,8 @@ returns : tie.Need-returns
 returns c =
     let a = c.args in
     let x = a.x in
-    stores-splice a.b.now a.at (x % 256) (x / 256 ∷ []) (search rules)
-    ∙ ap (splice a.b.now a.at) (sym (little-two x (search rules)))
+    stores_splice a.b.now a.at (x % 256) (x / 256 ∷ []) (search rules)
+    ∙ ap (splice a.b.now a.at) (sym (little_two x (search rules)))
 
 pub put-u16-le-spec : {M : Type 1} → statement M
 put-u16-le-spec =

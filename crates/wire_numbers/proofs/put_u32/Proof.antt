@@ -3,9 +3,9 @@ use mathlib.Core.List.{[], ◌∷◌, reverse}
 use Prim.Native.Nat.{◌/◌, ◌%◌}
 use lib.ListN.{length-set}
 use Rattle.wire.specs.Parts.{splice}
-use Rattle.wire.specs.Numbers.{bigBytes}
-use Rattle.wire.proofs.Parts.{stores-splice}
-use Rattle.wire.proofs.Numbers.{little-four}
+use Rattle.wire.specs.Numbers.{big_bytes}
+use Rattle.wire.proofs.Parts.{stores_splice}
+use Rattle.wire.proofs.Numbers.{little_four}
 use borrow.Author.Rules.{rules}
 use Rattle.wire_numbers.proofs.put_u32.Statement.{statement}
 use Rattle.wire_numbers.proofs.put_u32.Tie as tie
@@ -47,12 +47,12 @@ same_length : tie.Need-same-length
 same_length c = search rules
 
 returns : tie.Need-returns
-unfolding bigBytes
+unfolding big_bytes
 returns c =
     let a = c.args in
     let x = a.x in
-    stores-splice a.b.now a.at (x / 16777216) (x / 65536 % 256 ∷ x / 256 % 256 ∷ x % 256 ∷ []) (search rules)
-    ∙ ap (splice a.b.now a.at) (sym (ap reverse (little-four x (search rules))))
+    stores_splice a.b.now a.at (x / 16777216) (x / 65536 % 256 ∷ x / 256 % 256 ∷ x % 256 ∷ []) (search rules)
+    ∙ ap (splice a.b.now a.at) (sym (ap reverse (little_four x (search rules))))
 
 pub put-u32-spec : {M : Type 1} → statement M
 put-u32-spec =

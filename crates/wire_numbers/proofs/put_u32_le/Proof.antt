@@ -3,8 +3,8 @@ use mathlib.Core.List.{[], ◌∷◌}
 use Prim.Native.Nat.{◌/◌, ◌%◌}
 use lib.ListN.{length-set}
 use Rattle.wire.specs.Parts.{splice}
-use Rattle.wire.proofs.Parts.{stores-splice}
-use Rattle.wire.proofs.Numbers.{little-four}
+use Rattle.wire.proofs.Parts.{stores_splice}
+use Rattle.wire.proofs.Numbers.{little_four}
 use borrow.Author.Rules.{rules}
 use Rattle.wire_numbers.proofs.put_u32_le.Statement.{statement}
 use Rattle.wire_numbers.proofs.put_u32_le.Tie as tie
@@ -49,8 +49,8 @@ returns : tie.Need-returns
 returns c =
     let a = c.args in
     let x = a.x in
-    stores-splice a.b.now a.at (x % 256) (x / 256 % 256 ∷ x / 65536 % 256 ∷ x / 16777216 ∷ []) (search rules)
-    ∙ ap (splice a.b.now a.at) (sym (little-four x (search rules)))
+    stores_splice a.b.now a.at (x % 256) (x / 256 % 256 ∷ x / 65536 % 256 ∷ x / 16777216 ∷ []) (search rules)
+    ∙ ap (splice a.b.now a.at) (sym (little_four x (search rules)))
 
 pub put-u32-le-spec : {M : Type 1} → statement M
 put-u32-le-spec =

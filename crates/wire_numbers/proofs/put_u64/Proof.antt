@@ -1,9 +1,9 @@
 use mathlib.Core.Path.{ap, ◌∙◌}
 use Prim.Native.Nat.{◌/◌, ◌%◌}
 use Rattle.wire.specs.Parts.{splice}
-use Rattle.wire.specs.Numbers.{bigBytes, littleBytes}
-use Rattle.wire.proofs.Parts.{splice-then}
-use Rattle.wire.proofs.Numbers.{big-eight}
+use Rattle.wire.specs.Numbers.{big_bytes, little_bytes}
+use Rattle.wire.proofs.Parts.{splice_then}
+use Rattle.wire.proofs.Numbers.{big_eight}
 use borrow.Author.Rules.{rules}
 use Rattle.wire_numbers.proofs.put_u64.Statement.{statement}
 use Rattle.wire_numbers.proofs.put_u64.Tie as tie
@@ -27,13 +27,13 @@ same_length : tie.Need-same-length
 same_length c = search rules
 
 returns : tie.Need-returns
-unfolding bigBytes littleBytes
+unfolding big_bytes little_bytes
 returns c =
     let a = c.before.before.before.before.before.before.before.before.before.args in
     let x = a.x in
-    splice-then a.b.now a.at (bigBytes 4 (x / 4294967296)) (bigBytes 4 (x % 4294967296)) (search rules)
+    splice_then a.b.now a.at (big_bytes 4 (x / 4294967296)) (big_bytes 4 (x % 4294967296)) (search rules)
     c.before.before.before.before.before.before.put-u32.ensures c.before.before.put-u322.ensures
-    ∙ ap (splice a.b.now a.at) (big-eight x)
+    ∙ ap (splice a.b.now a.at) (big_eight x)
 
 pub put-u64-spec : {M : Type 1} → statement M
 put-u64-spec =

@@ -1,9 +1,9 @@
 use mathlib.Core.Path.{ap, ◌∙◌}
 use Prim.Native.Nat.{◌/◌, ◌%◌}
 use Rattle.wire.specs.Parts.{splice}
-use Rattle.wire.specs.Numbers.{littleBytes}
-use Rattle.wire.proofs.Parts.{splice-then}
-use Rattle.wire.proofs.Numbers.{little-eight}
+use Rattle.wire.specs.Numbers.{little_bytes}
+use Rattle.wire.proofs.Parts.{splice_then}
+use Rattle.wire.proofs.Numbers.{little_eight}
 use borrow.Author.Rules.{rules}
 use Rattle.wire_numbers.proofs.put_u64_le.Statement.{statement}
 use Rattle.wire_numbers.proofs.put_u64_le.Tie as tie
@@ -27,13 +27,13 @@ same_length : tie.Need-same-length
 same_length c = search rules
 
 returns : tie.Need-returns
-unfolding littleBytes
+unfolding little_bytes
 returns c =
     let a = c.before.before.before.before.before.before.before.before.before.args in
     let x = a.x in
-    splice-then a.b.now a.at (littleBytes 4 (x % 4294967296)) (littleBytes 4 (x / 4294967296)) (search rules)
+    splice_then a.b.now a.at (little_bytes 4 (x % 4294967296)) (little_bytes 4 (x / 4294967296)) (search rules)
     c.before.before.before.before.before.before.put-u32-le.ensures c.before.before.put-u32-le2.ensures
-    ∙ ap (splice a.b.now a.at) (little-eight x)
+    ∙ ap (splice a.b.now a.at) (little_eight x)
 
 pub put-u64-le-spec : {M : Type 1} → statement M
 put-u64-le-spec =

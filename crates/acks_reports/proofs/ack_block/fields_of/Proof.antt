@@ -3,7 +3,7 @@ use mathlib.Core.List.{List}
 use Prim.Native.Nat.{ℕ}
 use lib.ListN.{set}
 use Rattle.blocks.specs.Layout.{eight}
-use Rattle.acks.specs.AckBlocks.{ackFieldsOf}
+use Rattle.acks.specs.AckBlocks.{ack_fields_of}
 use borrow.Author.Rules.{rules}
 use Rattle.acks_reports.proofs.ack_block.fields_of.Statement.{statement}
 use Rattle.acks_reports.proofs.ack_block.fields_of.Tie as tie
@@ -24,7 +24,7 @@ array-write-fields-2 : tie.Need-array-write-fields-2
 array-write-fields-2 c = search rules
 
 returns : tie.Need-returns
-unfolding eight ackFieldsOf
+unfolding eight ack_fields_of
 returns c = let a = c.before.before.before.args in ap (λ (l : List ℕ). set (set l 0 a.r.through) 1 a.r.count) c.before.before.no_fields.ensures
 
 pub fields-of-spec : {M : Type 1} → statement M

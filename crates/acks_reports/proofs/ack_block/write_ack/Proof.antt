@@ -5,8 +5,8 @@ use Prim.Native.Nat.{ℕ, min}
 use lib.ListN.{length, take}
 use lib.Seq.{length-take-le}
 use borrow.Author.Tests.{ne_eqb}
-use Rattle.acks.specs.Reporting.{pairBytes}
-use Rattle.acks.specs.AckBlocks.{ackWriting, ackRoom}
+use Rattle.acks.specs.Reporting.{pair_bytes}
+use Rattle.acks.specs.AckBlocks.{ack_writing, ack_room}
 use Rattle.wire.proofs.Slices.{take_min}
 use borrow.Author.Rules.{rules}
 use Rattle.acks_reports.proofs.ack_block.write_ack.Statement.{statement}
@@ -19,7 +19,7 @@ long : (c : tie.Start) → length c.args.report.pairs ≡ 254
 long c = search rules
 
 returns : tie.Need-returns
-unfolding ackWriting ackRoom
+unfolding ack_writing ack_room
 returns c =
     let a = c.before.before.before.before.args in
     let refused : a.report.number ≡ 0 → ⊥ = c.if1.true in
@@ -41,7 +41,7 @@ same_length : tie.Need-same-length
 same_length c = search rules
 
 returns-2 : tie.Need-returns-2
-unfolding pairBytes
+unfolding pair_bytes
 returns-2 c =
     let a = c.before.before.before.before.before.before.before.before.before.before.args in
     let len = c.before.before.before.before.before.before.before.shorter in

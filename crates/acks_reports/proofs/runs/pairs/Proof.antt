@@ -5,10 +5,10 @@ use mathlib.Core.List.{[], append-nil}
 use lib.ListN.{length}
 use borrow.Author.Rules.{rules}
 use native.Mathlib.Omega.{arith}
-use Rattle.acks.specs.Runs.{laterRuns}
+use Rattle.acks.specs.Runs.{later_runs}
 use Rattle.acks.specs.Reporting.{view, padded}
-use Rattle.acks.proofs.View.{view-none}
-use Rattle.acks.proofs.Pairs.{Sofar, Turn, turn, sofar, room, leading-view-le}
+use Rattle.acks.proofs.View.{view_none}
+use Rattle.acks.proofs.Pairs.{Sofar, Turn, turn, sofar, room, leading_view_le}
 use Rattle.acks_reports.proofs.runs.pairs.Statement.{statement}
 use Rattle.acks_reports.proofs.runs.pairs.Tie as tie
 
@@ -23,7 +23,7 @@ nack-in : (c : tie.After-run invariant-loop decreases-loop) → c.before.before.
 nack-in c =
     let a = c.before.before.before.before.before.args in
     let u = c.before.before.loop.used in
-    let l : c.run.result ≤ a.k - u = rw c.run.ensures (leading-view-le false a.m.now (a.top - u) (a.k - u)) in
+    let l : c.run.result ≤ a.k - u = rw c.run.ensures (leading_view_le false a.m.now (a.top - u) (a.k - u)) in
     omega arith
 
 -- what a turn found
@@ -114,13 +114,13 @@ loop-again c =
     sofar a.m.now a.top a.k i.bytes i.len i.used c.before.run.result c.run2.result i.invariant (omega arith) (omega arith) (found c)
 
 returns : tie.Need-returns invariant-loop decreases-loop
-unfolding laterRuns
+unfolding later_runs
 returns c =
     let a = c.before.before.before.before.args in
     let i = c.before.loop in
     let z : a.k - i.used ≡ 0 = omega (arith, i.invariant.below) in
-    let e : laterRuns true (view a.m.now a.top a.k) ≡ i.invariant.w =
-    i.invariant.whole ∙ rw (z, view-none a.m.now (a.top - i.used)) (append-nil i.invariant.w) in
+    let e : later_runs true (view a.m.now a.top a.k) ≡ i.invariant.w =
+    i.invariant.whole ∙ rw (z, view_none a.m.now (a.top - i.used)) (append-nil i.invariant.w) in
     (i.invariant.written ∙ ap padded (sym e), i.invariant.counted ∙ ap length (sym e))
 
 pub pairs-spec : {M : Type 1} → statement M

@@ -1,8 +1,8 @@
 use native.Mathlib.Omega.{arith}
 use mathlib.Core.Path.{refl}
 use Prim.Native.Nat.{◌≤◌, ◌-◌, ◌%◌}
-use Rattle.acks.proofs.View.{ends-in-front, goes_on}
-use Rattle.acks.proofs.Pairs.{leading-view-le}
+use Rattle.acks.proofs.View.{ends_in_front, goes_on}
+use Rattle.acks.proofs.Pairs.{leading_view_le}
 use borrow.Author.Rules.{rules}
 use Rattle.acks_reports.proofs.runs.run.Statement.{statement}
 use Rattle.acks_reports.proofs.runs.run.Tie as tie
@@ -17,7 +17,7 @@ returns : tie.Need-returns
 returns c =
     let a = c.before.before.before.before.args in
     let l = c.before.before.lesser in
-    ends-in-front a.m.now a.top a.k (a.top % 255) l.result refl l.ensures (omega arith) (omega arith) a.want
+    ends_in_front a.m.now a.top a.k (a.top % 255) l.result refl l.ensures (omega arith) (omega arith) a.want
     c.before.straight.result c.before.straight.ensures c.if1.true
 
 sub-straight : tie.Need-overflow-sub-straight
@@ -31,7 +31,7 @@ add-result c =
     let a = c.before.before.before.before.before.args in
     let l = c.before.before.before.lesser in
     let s : c.straight2.result ≤ a.k - l.result =
-    rw c.straight2.ensures (leading-view-le a.want a.m.now 255 (a.k - l.result)) in
+    rw c.straight2.ensures (leading_view_le a.want a.m.now 255 (a.k - l.result)) in
     omega arith
 
 returns-2 : tie.Need-returns-2

@@ -8,8 +8,8 @@ use mathlib.Core.Path.{◌≡◌, sym, ap, ◌∙◌}
 use Rattle.acks.specs.Runs.{leading}
 use Rattle.acks.specs.Reporting.{view}
 use Rattle.acks.specs.Tracking.{mark}
-use Rattle.acks.proofs.RunLengths.{bools-eq, bools-ne}
-use Rattle.acks.proofs.View.{run_more, run-stop, view-none}
+use Rattle.acks.proofs.RunLengths.{bools_eq, bools_ne}
+use Rattle.acks.proofs.View.{run_more, run_stop, view_none}
 use borrow.Author.Rules.{rules}
 use Rattle.acks_reports.proofs.runs.straight.Statement.{statement}
 use Rattle.acks_reports.proofs.runs.straight.Tie as tie
@@ -29,8 +29,8 @@ plain m x h =
 
 none : (b : Bool) (m : List ℕ) (n : ℕ) → leading b (view m n 0) ≡ 0
 unfolding leading
-none true m n = ap (leading true) (view-none m n)
-none false m n = ap (leading false) (view-none m n)
+none true m n = ap (leading true) (view_none m n)
+none false m n = ap (leading false) (view_none m n)
 
 loop-holds : tie.Need-loop-init invariant-loop decreases-loop
 loop-holds c =
@@ -56,7 +56,7 @@ returns c =
     let j = c.before.before.before.loop.j in
     let p = plain a.m.now (a.e - 1 - j) (omega arith) in
     let s : leading a.want (view a.m.now (a.e - j) (a.k - j)) ≡ 0 =
-    run-stop a.m.now a.e a.k j a.want (omega arith) (λ q. bools-ne _ a.want c.if1.true (sym p ∙ q)) in
+    run_stop a.m.now a.e a.k j a.want (omega arith) (λ q. bools_ne _ a.want c.if1.true (sym p ∙ q)) in
     omega arith
 
 add-j : tie.Need-overflow-add-j invariant-loop decreases-loop
@@ -70,7 +70,7 @@ loop-again c =
     let a = c.before.before.before.before.args in
     let j = c.before.before.before.loop.j in
     let p = plain a.m.now (a.e - 1 - j) (omega arith) in
-    let s = run_more a.m.now a.e a.k j a.want (omega arith) (p ∙ bools-eq _ a.want c.if1.false) in
+    let s = run_more a.m.now a.e a.k j a.want (omega arith) (p ∙ bools_eq _ a.want c.if1.false) in
     (omega arith, omega arith)
 
 returns-2 : tie.Need-returns-2 invariant-loop decreases-loop

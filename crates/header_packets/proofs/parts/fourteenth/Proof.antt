@@ -8,11 +8,11 @@ is-short-requires c κs = search rules
 
 returns : tie.Need-returns
 unfolding byte14
-returns c = rw (← c.before.is-short.ensures, c.if1.true)
+returns c = rw (← c.before.is_short_lem.ensures, c.if1.true)
 
 returns-2 : tie.Need-returns-2
 unfolding byte14
-returns-2 c = rw (← c.before.is-short.ensures, c.if1.false)
+returns-2 c = rw (← c.before.is_short_lem.ensures, c.if1.false)
 
 pub fourteenth-spec : {M : Type 1} → statement M
 fourteenth-spec = tie.close (tie.spec is-short-requires returns returns-2)

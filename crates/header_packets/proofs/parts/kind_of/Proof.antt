@@ -1,6 +1,6 @@
 use mathlib.Core.Path.{ap, ◌∙◌}
 use borrow.Author.Tests.{eq-eqb, ne_eqb}
-use Rattle.header.specs.Reading.{longHeader, header_at}
+use Rattle.header.specs.Reading.{long_header, header_at}
 use borrow.Author.Rules.{rules}
 use Rattle.header_packets.proofs.parts.kind_of.Statement.{statement}
 use Rattle.header_packets.proofs.parts.kind_of.Tie as tie
@@ -45,7 +45,7 @@ long-kind-requires c κs = search rules
 
 returns-3 : tie.Need-returns-3
 unfolding header_at
-returns-3 c = rw (ne_eqb _ _ c.before.before.before.if1.false, ne_eqb _ _ c.before.before.if2.false) (c.long-kind.ensures ∙ ap (longHeader _) c.before.long-at.ensures)
+returns-3 c = rw (ne_eqb _ _ c.before.before.before.if1.false, ne_eqb _ _ c.before.before.if2.false) (c.long-kind.ensures ∙ ap (long_header _) c.before.long-at.ensures)
 
 pub kind-of-spec : {M : Type 1} → statement M
 kind-of-spec =

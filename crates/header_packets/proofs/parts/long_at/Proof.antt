@@ -1,4 +1,4 @@
-use Rattle.header.specs.Reading.{longAt}
+use Rattle.header.specs.Reading.{long_at}
 use borrow.Author.Rules.{rules}
 use Rattle.header_packets.proofs.parts.long_at.Statement.{statement}
 use Rattle.header_packets.proofs.parts.long_at.Tie as tie
@@ -22,7 +22,7 @@ le-u64-requires-3 : tie.Need-le-u64-requires-3
 le-u64-requires-3 c κs = search rules
 
 returns : tie.Need-returns
-unfolding longAt
+unfolding long_at
 returns c = rw (c.before.before.before.before.before.le-u64.ensures, c.before.before.before.before.be-u32.ensures, c.before.le-u642.ensures, c.le-u643.ensures)
 
 pub long-at-spec : {M : Type 1} → statement M

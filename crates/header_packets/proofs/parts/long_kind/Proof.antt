@@ -1,30 +1,30 @@
 use borrow.Author.Tests.{eq-eqb, ne_eqb}
-use Rattle.header.specs.Reading.{longHeader}
+use Rattle.header.specs.Reading.{long_header}
 use Rattle.header_packets.proofs.parts.long_kind.Statement.{statement}
 use Rattle.header_packets.proofs.parts.long_kind.Tie as tie
 
 returns : tie.Need-returns
-unfolding longHeader
+unfolding long_header
 returns c = rw (eq-eqb _ _ c.if1.true)
 
 returns-2 : tie.Need-returns-2
-unfolding longHeader
+unfolding long_header
 returns-2 c = rw (ne_eqb _ _ c.before.if1.false, eq-eqb _ _ c.if2.true)
 
 returns-3 : tie.Need-returns-3
-unfolding longHeader
+unfolding long_header
 returns-3 c = rw (ne_eqb _ _ c.before.before.if1.false, ne_eqb _ _ c.before.if2.false, eq-eqb _ _ c.if3.true)
 
 returns-4 : tie.Need-returns-4
-unfolding longHeader
+unfolding long_header
 returns-4 c = rw (ne_eqb _ _ c.before.before.before.if1.false, ne_eqb _ _ c.before.before.if2.false, ne_eqb _ _ c.before.if3.false, eq-eqb _ _ c.if4.true)
 
 returns-5 : tie.Need-returns-5
-unfolding longHeader
+unfolding long_header
 returns-5 c = rw (ne_eqb _ _ c.before.before.before.before.if1.false, ne_eqb _ _ c.before.before.before.if2.false, ne_eqb _ _ c.before.before.if3.false, ne_eqb _ _ c.before.if4.false, eq-eqb _ _ c.if5.true)
 
 returns-6 : tie.Need-returns-6
-unfolding longHeader
+unfolding long_header
 returns-6 c = rw (ne_eqb _ _ c.before.before.before.before.if1.false, ne_eqb _ _ c.before.before.before.if2.false, ne_eqb _ _ c.before.before.if3.false, ne_eqb _ _ c.before.if4.false, ne_eqb _ _ c.if5.false)
 
 pub long-kind-spec : {M : Type 1} → statement M

@@ -1,6 +1,6 @@
 use mathlib.Core.List.{[], ◌∷◌}
 use lib.ListN.{length-set}
-use Rattle.wire.proofs.Parts.{stores-splice}
+use Rattle.wire.proofs.Parts.{stores_splice}
 use borrow.Author.Rules.{rules}
 use Rattle.header_packets.proofs.parts.put_bytes.Statement.{statement}
 use Rattle.header_packets.proofs.parts.put_bytes.Tie as tie
@@ -21,7 +21,7 @@ same_length : tie.Need-same-length
 same_length c = search rules
 
 returns : tie.Need-returns
-returns c = stores-splice c.args.pkt.now 12 c.args.kind (c.args.b13 ∷ c.args.b14 ∷ 0 ∷ []) (search rules)
+returns c = stores_splice c.args.pkt.now 12 c.args.kind (c.args.b13 ∷ c.args.b14 ∷ 0 ∷ []) (search rules)
 
 pub put-bytes-spec : {M : Type 1} → statement M
 put-bytes-spec =

@@ -1,4 +1,4 @@
-use Rattle.header.proofs.Plain.{front-put}
+use Rattle.header.proofs.Plain.{front_put}
 use borrow.Author.Rules.{rules}
 use Rattle.header_packets.proofs.parts.put_front.Statement.{statement}
 use Rattle.header_packets.proofs.parts.put_front.Tie as tie
@@ -23,7 +23,7 @@ same_length c = search rules
 
 returns : tie.Need-returns
 returns c =
-    front-put c.before.before.before.before.before.before.before.before.before.before.before.before.before.before.before.args.f c.before.before.before.before.before.before.before.before.before.before.before.before.before.before.before.args.pkt.now (search rules)
+    front_put c.before.before.before.before.before.before.before.before.before.before.before.before.before.before.before.args.f c.before.before.before.before.before.before.before.before.before.before.before.before.before.before.before.args.pkt.now (search rules)
     c.before.before.before.before.before.before.before.before.before.before.put-u64-le.ensures c.before.before.before.before.before.before.put-u32.ensures c.before.before.before.before.before.before.before.before.before.before.before.before.before.thirteenth.ensures c.before.before.before.before.before.before.before.before.before.before.before.before.fourteenth.ensures c.before.before.put-bytes.ensures
 
 pub put-front-spec : {M : Type 1} → statement M

@@ -1,4 +1,4 @@
-use Rattle.header.proofs.Plain.{ids-put}
+use Rattle.header.proofs.Plain.{ids_put}
 use borrow.Author.Rules.{rules}
 use Rattle.header_packets.proofs.parts.put_ids.Statement.{statement}
 use Rattle.header_packets.proofs.parts.put_ids.Tie as tie
@@ -13,7 +13,7 @@ same_length : tie.Need-same-length
 same_length c = search rules
 
 returns : tie.Need-returns
-returns c = ids-put c.before.before.before.before.before.before.before.before.before.args.f c.before.before.before.before.before.before.before.before.before.args.pkt.now (search rules) c.before.before.before.before.before.before.put-u64-le.ensures c.before.before.put-u64-le2.ensures
+returns c = ids_put c.before.before.before.before.before.before.before.before.before.args.f c.before.before.before.before.before.before.before.before.before.args.pkt.now (search rules) c.before.before.before.before.before.before.put-u64-le.ensures c.before.before.put-u64-le2.ensures
 
 pub put-ids-spec : {M : Type 1} → statement M
 put-ids-spec = tie.close (tie.spec put-u64-le-requires put-u64-le-requires-2 same_length returns)

@@ -1,6 +1,6 @@
 use Rattle.std.proofs.Common.{◌≡◌, length, ap, ◌∙◌, rules}
 use Rattle.keystream.specs.Chacha.{quarter}
-use Rattle.keystream.proofs.State.{round-by-quarters}
+use Rattle.keystream.proofs.State.{round_by_quarters}
 use Rattle.keystream.proofs.rounds.double_round.Statement.{statement}
 use Rattle.keystream.proofs.rounds.double_round.Tie as tie
 
@@ -45,7 +45,7 @@ long c = search rules
 
 returns : tie.Need-returns
 returns c =
-    round-by-quarters _ (long c.before.before.before.before.before.before.before.before.before.before.before.before)
+    round_by_quarters _ (long c.before.before.before.before.before.before.before.before.before.before.before.before)
     (c.before.before.before.before.before.before.before.before.before.before.quarter.ensures ∙ ap quarter c.before.before.before.before.before.before.before.before.before.before.before.quad_at.ensures)
     (c.before.before.before.before.before.before.before.before.quarter2.ensures ∙ ap quarter c.before.before.before.before.before.before.before.before.before.quad-at2.ensures)
     (c.before.before.before.before.before.before.quarter3.ensures ∙ ap quarter c.before.before.before.before.before.before.before.quad-at3.ensures)

@@ -1,6 +1,6 @@
 use Rattle.std.proofs.Common.{◌≡◌, ◌-◌, ◌≤◌, length, refl, arith, rules}
 use Rattle.keystream.specs.Chacha.{add32}
-use Rattle.keystream.proofs.State.{Filled, finish-none, finish-more, finish-all}
+use Rattle.keystream.proofs.State.{Filled, finish_none, finish_more, finish_all}
 use Rattle.keystream.proofs.rounds.finish.Statement.{statement}
 use Rattle.keystream.proofs.rounds.finish.Tie as tie
 
@@ -14,7 +14,7 @@ long : (c : tie.Start invariant-loop decreases-loop) → (length c.args.t1 ≡ 1
 long c = search rules
 
 loop-holds : tie.Need-loop-init invariant-loop decreases-loop
-loop-holds c = (omega arith, finish-none c.args.t1 c.args.t2 _)
+loop-holds c = (omega arith, finish_none c.args.t1 c.args.t2 _)
 
 mul-wrapping-add-u32 : tie.Need-overflow-mul-wrapping-add-u32 invariant-loop decreases-loop
 mul-wrapping-add-u32 c = omega arith
@@ -45,7 +45,7 @@ unfolding add32
 loop-again c =
     let n = long c.before.before.before.before.before in (
       omega arith,
-      finish-more _ _ _ n.0 n.1 refl _ _ _ _ c.before.before.before.loop-test.true c.before.before.before.before.loop.invariant.1
+      finish_more _ _ _ n.0 n.1 refl _ _ _ _ c.before.before.before.loop-test.true c.before.before.before.before.loop.invariant.1
           c.before.before.wrapping-add-u32.ensures c.put_word.ensures,
     )
 
@@ -53,7 +53,7 @@ returns : tie.Need-returns invariant-loop decreases-loop
 returns c =
     let n = long c.before.before in
     let e : c.before.loop.i ≡ 16 = omega arith in
-    finish-all _ _ _ n.0 n.1 refl _ _ e c.before.loop.invariant.1
+    finish_all _ _ _ n.0 n.1 refl _ _ e c.before.loop.invariant.1
 
 pub finish_spec : {M : Type 1} → statement M
 finish_spec =

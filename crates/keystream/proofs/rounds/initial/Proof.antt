@@ -1,4 +1,4 @@
-use Rattle.keystream.proofs.State.{initial-by-words}
+use Rattle.keystream.proofs.State.{initial_by_words}
 use Rattle.std.proofs.Common.{rules}
 use Rattle.keystream.proofs.rounds.initial.Statement.{statement}
 use Rattle.keystream.proofs.rounds.initial.Tie as tie
@@ -38,7 +38,7 @@ le-u32-requires-11 c κs = search rules
 
 returns : tie.Need-returns
 returns c =
-    initial-by-words _ _
+    initial_by_words _ _
     c.before.before.before.before.before.before.before.before.before.before.before.before.before.before.before.before.before.before.before.before.le-u32.ensures
     c.before.before.before.before.before.before.before.before.before.before.before.before.before.before.before.before.before.before.le-u322.ensures
     c.before.before.before.before.before.before.before.before.before.before.before.before.before.before.before.before.le-u323.ensures

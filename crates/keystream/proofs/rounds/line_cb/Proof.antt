@@ -1,4 +1,4 @@
-use Rattle.keystream.specs.Chacha.{add32, lineCB}
+use Rattle.keystream.specs.Chacha.{add32, line_cb}
 use Rattle.std.proofs.Common.{rules}
 use Rattle.keystream.proofs.rounds.line_cb.Statement.{statement}
 use Rattle.keystream.proofs.rounds.line_cb.Tie as tie
@@ -10,7 +10,7 @@ rotate-requires : tie.Need-rotate-requires
 rotate-requires c κs = search rules
 
 returns : tie.Need-returns
-unfolding add32 lineCB
+unfolding add32 line_cb
 returns c = rw (c.rotate.ensures, c.before.before.wrapping-add-u32.ensures)
 
 pub line-cb-spec : {M : Type 1} → statement M

@@ -1,5 +1,5 @@
 use Rattle.std.proofs.Common.{◌≡◌, ◌-◌, ◌≤◌, refl, ap, ◌∙◌, add-one, arith}
-use Rattle.keystream.specs.Chacha.{doubleRound, rounds}
+use Rattle.keystream.specs.Chacha.{double_round, rounds}
 use Rattle.keystream.proofs.rounds.twenty_rounds.Statement.{statement}
 use Rattle.keystream.proofs.rounds.twenty_rounds.Tie as tie
 
@@ -24,7 +24,7 @@ loop-less c = omega arith
 
 loop-again : tie.Need-loop-preserved invariant-loop decreases-loop
 unfolding rounds
-loop-again c = (omega arith, rw add-one (c.double-round.ensures ∙ ap doubleRound c.before.before.loop.invariant.1))
+loop-again c = (omega arith, rw add-one (c.double-round.ensures ∙ ap double_round c.before.before.loop.invariant.1))
 
 returns : tie.Need-returns invariant-loop decreases-loop
 returns c =

@@ -1,4 +1,4 @@
-use Rattle.strawhub_blocks.proofs.Numbers.{one_by_one, read-shown, read-refused}
+use Rattle.strawhub_blocks.proofs.Numbers.{one_by_one, read_shown, read_refused_lem}
 use mathlib.Core.Path.{◌∙◌}
 use borrow.Author.Rules.{rules}
 use Rattle.strawhub_blocks.proofs.block_reads.strawhub_block_read.Statement.{statement}
@@ -50,10 +50,10 @@ cast-t44 : tie.Need-overflow-cast-t44
 cast-t44 c = search rules
 
 returns : tie.Need-returns
-returns c = read-shown c.before.before.before.before.before.before.before.before.before.args.out.now c.before.before.before.before.before.before.before.read-block.ensures c.before.before.before.extent.given.1 (one_by_one _ (search rules) ∙ c.before.as-numbers.ensures)
+returns c = read_shown c.before.before.before.before.before.before.before.before.before.args.out.now c.before.before.before.before.before.before.before.read-block.ensures c.before.before.before.extent.given.1 (one_by_one _ (search rules) ∙ c.before.as-numbers.ensures)
 
 returns-2 : tie.Need-returns-2
-returns-2 c = read-refused c.before.before.before.before.before.before.before.args.out.now c.before.before.before.before.before.read-block.ensures c.before.extent2.given.1
+returns-2 c = read_refused_lem c.before.before.before.before.before.before.before.args.out.now c.before.before.before.before.before.read-block.ensures c.before.extent2.given.1
 
 pub strawhub-block-read-spec : {M : Type 1} → statement M
 strawhub-block-read-spec =

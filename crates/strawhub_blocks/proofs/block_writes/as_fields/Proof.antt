@@ -1,6 +1,6 @@
 use borrow.Author.Tests.{eq-eqb, ne_eqb}
 use Rattle.blocks.specs.Layout.{eight}
-use Rattle.blocks.specs.Numbers.{asFields}
+use Rattle.blocks.specs.Numbers.{as_fields}
 use borrow.Author.Rules.{rules}
 use Rattle.strawhub_blocks.proofs.block_writes.as_fields.Statement.{statement}
 use Rattle.strawhub_blocks.proofs.block_writes.as_fields.Tie as tie
@@ -27,11 +27,11 @@ array-read-t18 : tie.Need-array-read-t18
 array-read-t18 c = search rules
 
 returns : tie.Need-returns
-unfolding asFields eight
+unfolding as_fields eight
 returns c = rw (eq-eqb c.before.before.before.args.kind 5 c.before.before.if1.true, c.before.at-most-128.ensures.0, c.bit.ensures.0)
 
 returns-2 : tie.Need-returns-2
-unfolding asFields
+unfolding as_fields
 returns-2 c = rw (ne_eqb c.before.args.kind 5 c.if1.false)
 
 pub as-fields-spec : {M : Type 1} → statement M

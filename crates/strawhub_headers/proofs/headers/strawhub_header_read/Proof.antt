@@ -1,6 +1,6 @@
 use mathlib.Core.Path.{ap, ◌∙◌}
 use Rattle.header.specs.declared.Answer.{Answer}
-use Rattle.numbers.specs.Headers.{answerNumber, answerNumbers}
+use Rattle.numbers.specs.Headers.{answer_number, answer_numbers}
 use borrow.Author.Rules.{rules}
 use Rattle.strawhub_headers.proofs.headers.strawhub_header_read.Statement.{statement}
 use Rattle.strawhub_headers.proofs.headers.strawhub_header_read.Tie as tie
@@ -16,9 +16,9 @@ same_length c = search rules
 
 returns : tie.Need-returns
 returns c = (
-  c.put-numbers.ensures.0 ∙ ap answerNumber c.before.before.before.before.read.ensures.0,
+  c.put-numbers.ensures.0 ∙ ap answer_number c.before.before.before.before.read.ensures.0,
   c.before.before.before.before.read.ensures.1,
-  c.put-numbers.ensures.1 ∙ ap (λ (a : Answer). answerNumbers a c.before.before.before.before.before.before.before.args.out.now) c.before.before.before.before.read.ensures.0,
+  c.put-numbers.ensures.1 ∙ ap (λ (a : Answer). answer_numbers a c.before.before.before.before.before.before.before.args.out.now) c.before.before.before.before.read.ensures.0,
 )
 
 pub strawhub-header-read-spec : {M : Type 1} → statement M
