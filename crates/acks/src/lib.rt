@@ -1,4 +1,5 @@
 // Acknowledgements: which packet numbers came, and what to tell the sender. The Rust's `ack.rs`, as types and definitions; crates `acks_tracker`, `acks_reports` and `acks_expand` have the calls.
+#![tactic(auto)]
 
 // The bytes of a tracker's record, and where its marks begin there: specs/Recorded.antt.
 pub const TRACKER_SIZE: usize = 259;

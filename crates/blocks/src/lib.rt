@@ -1,5 +1,6 @@
 // SSU2 blocks: the table of their bodies, and what came of reading and writing them. No code: the definitions and their laws, for the crates that read and write.
 // Bytes of the payload: where they start, and how many they are.
+#![tactic(auto)]
 #[derive(Drop)]
 pub struct Part {
     pub start: usize,

@@ -1,4 +1,5 @@
 // The SSU2 header: its types, with the definitions of reading and writing one and their laws. What reads and writes it stands in the crates above.
+#![tactic(auto)]
 
 // The fields of a header of 32 or 64 bytes: the Rust's dst_id, pkt_num, version, net_id, src_id and token.
 #[derive(Drop)]

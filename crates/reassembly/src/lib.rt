@@ -1,4 +1,5 @@
 // The values that the store of document 01 works with; what is done with them stands in specs/, and the laws of it in proofs/.
+#![tactic(auto)]
 
 // The sizes of specs/Sizes.antt: the most bytes of a message, a slot's part of the room, the room, the record.
 pub const MESSAGE_SIZE: usize = 65535;

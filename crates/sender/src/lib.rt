@@ -1,4 +1,5 @@
 // The sender's list, as sizes and definitions; crates `sender_list` and `sender_acks` have the calls.
+#![tactic(auto)]
 
 // So many packets are outstanding at most, and the last number that is given out: specs/Sizes.antt.
 pub const MOST_OUTSTANDING: usize = 256;

@@ -1,4 +1,6 @@
 // Bytes copied, moved and compared, lengths; what parts of a list and numbers in bytes are, and the laws that all crates share.
+#![tactic(auto)]
+
 ghost use Rattle.std.specs.Prelude.{◌≡◌, ◌+◌, ◌<◌, ◌≤◌, min, length};
 ghost use Rattle.wire.specs.Parts.{part, splice, same};
 

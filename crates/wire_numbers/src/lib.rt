@@ -1,4 +1,6 @@
 // Numbers at a place of a slice, in two, four or eight bytes: read, as nom's `be_u16` and its like, and put, as `put_u16` of bytes and its like.
+#![tactic(auto)]
+
 ghost use Rattle.std.specs.Prelude.{◌≡◌, ◌+◌, ◌<◌, ◌≤◌, length};
 ghost use Rattle.wire.specs.Parts.{splice};
 ghost use Rattle.wire.specs.Numbers.{little_at, big_at, little_bytes, big_bytes};
