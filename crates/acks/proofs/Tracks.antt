@@ -192,7 +192,7 @@ module _ {l : List ℕ} {t : Tracker} (f : Follows l t) (n : ℕ) where
 pub follows_all : {l : List ℕ} {t : Tracker} → Follows l t → (calls : List ℕ) → Follows (received_after l calls) (register_all t calls)
 unfolding received_after register_all
 follows_all f [] = f
-follows_all f (n ∷ calls) = follows_all (follows_step f n) calls
+follows_all {l = l} {t = t} f (n ∷ calls) = follows_all {l = noted l n} {t = (register_of t n).tracker} (follows_step f n) calls
 
 follows_none : Follows [] fresh
 unfolding fresh highest_of among mark

@@ -1,4 +1,6 @@
 // The ring of 255 marks: number n's mark stands at n % 255, and is set where it is not 0.
+#![tactic(auto)]
+
 ghost use Rattle.std.specs.Prelude.{◌≡◌, ◌+◌, ◌-◌, ◌≤◌, ◌%◌, max, length};
 ghost use Rattle.acks.specs.History.{answer_to};
 ghost use Rattle.acks.specs.Tracking.{mark, is_duplicate, clear_up, marks_after};

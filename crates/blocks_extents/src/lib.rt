@@ -1,4 +1,6 @@
 // Where a block ends: the tests of a body, by family, and their refusals.
+#![tactic(auto)]
+
 ghost use Rattle.std.specs.Prelude.{◌≡◌, ◌+◌, ◌<◌, ◌≤◌, length};
 ghost use Rattle.blocks.specs.Packed.{row_number};
 ghost use Rattle.blocks.specs.Extent.{is_i2np_type, at_least, pair_bytes_in, takes_bytes, router_info, i2np, first_fragment, follow_on, address, ignores_size, plain_length, taken_at, extent_at};

@@ -1,4 +1,6 @@
 // The fields of a body by its row: read, judged and put by one loop each, for every type.
+#![tactic(auto)]
+
 ghost use Rattle.std.specs.Prelude.{◌≡◌, [], ◌+◌, ◌^◌, ◌≤◌, length};
 ghost use Rattle.wire.specs.Parts.{splice};
 ghost use Rattle.wire.specs.Numbers.{big_at, big_bytes};

@@ -1,4 +1,6 @@
 // The keystream of ChaCha20 (RFC 8439), and its use as a mask over a range of a buffer.
+#![tactic(auto)]
+
 mod rounds;
 
 ghost use Rattle.std.specs.Prelude.{◌≡◌, ◌+◌, ◌≤◌, length};

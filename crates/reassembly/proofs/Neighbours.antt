@@ -246,6 +246,7 @@ HearsAlone n acts s =
     (heard n acts (acts_said s acts) ≡ said_to most_remembered (store_of s n) (only n acts)) × (store_of (acts_left s acts) n ≡ reached most_remembered (store_of s n) (only n acts))
 
 pub alone : (n : ℕ) → n < 4 → (acts : List Act) (s : Neighbours) → length s.stores ≡ 4 → HearsAlone n acts s
+unfolding act_answer act_said answered said_of
 alone n small [] s l = (refl, refl)
 alone n small (sends m cap p second ∷ acts) s l = here (alone n small acts (step_from cap s m p second).left (from_stores cap s m p second ∙ l))
   where
@@ -256,7 +257,7 @@ alone n small (sends m cap p second ∷ acts) s l = here (alone n small acts (st
         → (cond b (act_said s (sends m cap p second) ∷ heard n acts (acts_said next acts)) (heard n acts (acts_said next acts))
         ≡ said_to most_remembered (store_of s n) (cond b (piece cap p second ∷ only n acts) (only n acts)))
         × (store_of (acts_left next acts) n ≡ reached most_remembered (store_of s n) (cond b (piece cap p second ∷ only n acts) (only n acts)))
-    go true t ih = unfold act_answer act_said answered said_of in
+    go true t ih =
         let q : m ≡ n = eqb-true m n t in
         let e : store_of next n ≡ (own cap s n p second).store = rw q (from_store cap s n p second small l) in
         let a : (step_from cap s m p second).number ≡ (own cap s n p second).number = rw q (from_number cap s n p second small) in
@@ -267,11 +268,11 @@ alone n small (sends m cap p second ∷ acts) s l = here (alone n small acts (st
         (rw (ih.0, e) refl, ih.1 ∙ rw e refl)
 
     here : HearsAlone n acts next → HearsAlone n (sends m cap p second ∷ acts) s
-    here ih = unfold act_answer in go (eqb m n) refl ih
+    here ih = go (eqb m n) refl ih
 alone n small (sweeps second ∷ acts) s l = go (alone n small acts (sweep_all second s) (all_stores second s ∙ l))
   where
     e : store_of (sweep_all second s) n ≡ sweep second (store_of s n)
     e = all_store second s n
 
     go : HearsAlone n acts (sweep_all second s) → HearsAlone n (sweeps second ∷ acts) s
-    go ih = unfold act_answer act_said answered said_of in (rw (ih.0, e) refl, ih.1 ∙ rw e refl)
+    go ih = (rw (ih.0, e) refl, ih.1 ∙ rw e refl)

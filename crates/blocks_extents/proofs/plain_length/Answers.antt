@@ -1,0 +1,12 @@
+use mathlib.Core.Path.{sym, ap, ◌∙◌}
+use Prim.Native.Nat.{ℕ}
+use Rattle.blocks.specs.Extent.{at_least, plain_length}
+use Rattle.blocks_extents.proofs.plain_length.Goals as goal
+
+pub returns-then-ignores_size : goal.returns-then-ignores_size
+unfolding plain_length
+returns-then-ignores_size c = c.length_of-fields.ensures.0 ∙ sym (simp (sym c.ignores_size.ensures ∙ c.if-ignores_size.true))
+
+pub returns : goal.returns
+unfolding plain_length
+returns c = let a = c.args in c.at_least.ensures ∙ ap (λ (f : ℕ). at_least f a.size) c.length_of-fields.ensures.0 ∙ sym (simp (sym c.ignores_size.ensures ∙ c.if-ignores_size.false))
