@@ -1,4 +1,6 @@
 // What a piece is to a slot: pure steps on the slot's head and the piece's label.
+#![tactic(auto)]
+
 ghost use Rattle.std.specs.Prelude.{◌≡◌, ◌+◌, ◌<◌, ◌≤◌};
 ghost use Rattle.reassembly.specs.Sizes.{message_size};
 ghost use Rattle.reassembly.specs.Ages.{long_ago};

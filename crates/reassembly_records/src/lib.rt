@@ -1,4 +1,6 @@
 // A neighbour's share of the record: 4 heads of 24 bytes, then 4 tables of 128 entries of 4 bytes. All zero is the empty store.
+#![tactic(auto)]
+
 ghost use Rattle.std.specs.Prelude.{◌≡◌, ◌+◌, ◌*◌, ◌<◌, ◌≤◌, length, replicate};
 ghost use Rattle.wire.specs.Parts.{splice};
 ghost use Rattle.reassembly.specs.Sizes.{head_size, entry_size, share_size};

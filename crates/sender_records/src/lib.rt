@@ -1,4 +1,6 @@
 // The fields of a sender's record, in lent bytes: the highest number given out, how many packets are outstanding, and the packets, the oldest first.
+#![tactic(auto)]
+
 ghost use Rattle.std.specs.Prelude.{◌≡◌, ◌++◌, ◌+◌, ◌*◌, ◌<◌, ◌≤◌, length};
 ghost use Rattle.wire.specs.Parts.{part, splice};
 ghost use Rattle.wire.specs.Numbers.{little_at, little_bytes};

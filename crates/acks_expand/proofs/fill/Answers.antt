@@ -20,16 +20,16 @@ pub fill_pairs-requires : goal.fill_pairs-requires
 fill_pairs-requires c =
     let a = c.args in
     let e : length (lib.ListN.set a.list.now 0 a.through) ≡ length a.list.now = length-set a.list.now 0 a.through in
-    let k : length c.fall.new.list ≡ length (lib.ListN.set a.list.now 0 a.through) = c.fall.auto.0 in
+    let k : length c.fall.new.list ≡ length (lib.ListN.set a.list.now 0 a.through) = c.fall.auto.list in
     (omega (arith, c.requires.0), omega (arith, length_numbers a.through a.count a.pairs.now, c.requires.1))
 
 pub shape_of-list : goal.shape_of-list
 shape_of-list c =
     let a = c.args in
-    c.fill_pairs.auto.1.0 ∙ c.fall.auto.0 ∙ length-set a.list.now 0 a.through
+    c.fill_pairs.auto.list ∙ c.fall.auto.list ∙ length-set a.list.now 0 a.through
 
 pub returns : goal.returns
 returns c =
     let a = c.args in
-    filled_in a.through a.count a.pairs.now a.list.now c.fall.new.list c.fill_pairs.new.#1
+    filled_in a.through a.count a.pairs.now a.list.now c.fall.new.list c.fill_pairs.new.list
     c.requires.1 c.fall.ensures c.fill_pairs.ensures

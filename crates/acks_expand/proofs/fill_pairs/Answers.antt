@@ -5,25 +5,25 @@ use native.Mathlib.Omega.{arith}
 use Rattle.acks.proofs.Filling.{wrote_start, wrote-step, wrote_end, spends, room_left_lem}
 use Rattle.acks_expand.proofs.fill_pairs.Goals as goal
 
-spent : (d : tie.After-byte2 invariant-loop decreases-loop) → d.before.byte.result + d.byte2.result ≤ d.before.before.before.loop.above
+spent : (d : goal.After-byte-ack) → d.byte-nack.result + d.byte-ack.result ≤ d.loop-i.above
 spent d =
-    let a = d.before.before.before.before.before.before.args in
-    let i = d.before.before.before.loop in
+    let a = d.args in
+    let i = d.loop-i in
     omega (
       arith,
-      spends a.pairs.now a.list.now a.place a.top d.before.before.before.before.before.before.requires.1 i.list i.at i.above i.i i.invariant (omega arith),
-      d.before.byte.ensures.0,
-      d.byte2.ensures.0,
+      spends a.pairs.now a.list.now a.place a.top d.requires.1 i.list i.at i.above i.i i.invariant (omega arith),
+      d.byte-nack.ensures.0,
+      d.byte-ack.ensures.0,
     )
 
-roomy : (d : tie.After-byte2 invariant-loop decreases-loop) → d.before.before.before.loop.at + d.byte2.result ≤ length d.before.before.before.loop.list
+roomy : (d : goal.After-byte-ack) → d.loop-i.at + d.byte-ack.result ≤ length d.loop-i.list
 roomy d =
-    let a = d.before.before.before.before.before.before.args in
-    let i = d.before.before.before.loop in
+    let a = d.args in
+    let i = d.loop-i in
     omega (
       arith,
-      room_left_lem a.pairs.now a.list.now a.place a.top d.before.before.before.before.before.before.requires.1 i.list i.at i.above i.i i.invariant (omega arith),
-      d.byte2.ensures.0,
+      room_left_lem a.pairs.now a.list.now a.place a.top d.requires.1 i.list i.at i.above i.i i.invariant (omega arith),
+      d.byte-ack.ensures.0,
     )
 
 pub loop-i-init : goal.loop-i-init
@@ -32,19 +32,19 @@ loop-i-init c =
     wrote_start a.pairs.now a.list.now a.place a.top c.requires.1 c.requires.0
 
 pub overflow_sub-above : goal.overflow_sub-above
-overflow_sub-above c = omega (arith, spent c)
+overflow_sub-above c = omega (arith, spent c.before)
 
 pub fall-requires : goal.fall-requires
-fall-requires c = (roomy c, omega (arith, spent c))
+fall-requires c = (roomy c.before, omega (arith, spent c.before))
 
 pub overflow_sub-above-in-loop-i : goal.overflow_sub-above-in-loop-i
-overflow_sub-above-in-loop-i c = omega (arith, spent c)
+overflow_sub-above-in-loop-i c = omega (arith, spent c.before.before.before.before)
 
 pub overflow_sub-above-in-loop-i-2 : goal.overflow_sub-above-in-loop-i-2
-overflow_sub-above-in-loop-i-2 c = omega (arith, spent c)
+overflow_sub-above-in-loop-i-2 c = omega (arith, spent c.before.before.before.before)
 
 pub overflow_add-at : goal.overflow_add-at
-overflow_add-at c = omega (arith, roomy c, c.loop-i.invariant.same)
+overflow_add-at c = omega (arith, roomy c.before.before.before.before, c.loop-i.invariant.same)
 
 pub loop-i-preserved : goal.loop-i-preserved
 loop-i-preserved c =
