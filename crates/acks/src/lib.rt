@@ -7,14 +7,14 @@ pub const TRACKER_SIZE: usize = 259;
 pub const MARKS_AT: usize = 4;
 
 // The highest number seen, and the marks of the 255 numbers that end there. The Rust's `RemoteAckManager`.
-#[derive(Drop)]
+#[derive(Clone, Copy)]
 pub struct Tracker {
     pub highest: u32,
     pub marks: [u8; 255],
 }
 
 // What a registration answers (0, 40, 42 or 43), and the tracker after it.
-#[derive(Drop)]
+#[derive(Clone, Copy)]
 pub struct Registered {
     pub answer: u32,
     pub tracker: Tracker,
@@ -22,7 +22,7 @@ pub struct Registered {
 
 // A report: 41 before any number, else 0 and what an Ack block says: the highest number, the count of received numbers directly below it, and len bytes of pairs.
 #[repr(C)]
-#[derive(Drop)]
+#[derive(Clone, Copy)]
 pub struct AckInfo {
     pub number: u32,
     pub through: u32,
@@ -33,7 +33,7 @@ pub struct AckInfo {
 
 // What an expansion answers: 44, 46, or 0 and how many numbers it named.
 #[repr(C)]
-#[derive(Drop)]
+#[derive(Clone, Copy)]
 pub struct Expanded {
     pub number: u32,
     pub count: usize,

@@ -12,7 +12,7 @@ use blocks::Part;
 use wire::shorter;
 
 // Whether count and pairs stay at 0 or above; if so, how many numbers they name and the lowest that they speak of, else 0 and 0.
-#[derive(Drop)]
+#[derive(Clone, Copy)]
 pub struct Measured {
     pub within: bool,
     pub names: usize,

@@ -1,4 +1,6 @@
 // Whether an acknowledgement names a number, found by a walk up its pairs, the last pair first: for numbers that rise it goes over the pairs once.
+#![tactic(auto)]
+
 ghost use Rattle.std.specs.Prelude.{◌≡◌, ◌+◌, ◌≤◌};
 ghost use Rattle.acks.specs.Runs.{whole_pairs, run_sum};
 ghost use Rattle.acks.specs.History.{among};
@@ -8,7 +10,7 @@ ghost use Rattle.acks.specs.Naming.{StandsAt, RunOf};
 use acks_expand::byte;
 
 // Whether a number is named, and where the walk stands then: the pairs from place on speak of numbers below low. All numbers from first to last are named, or none is.
-#[derive(Drop)]
+#[derive(Clone, Copy)]
 pub struct Found {
     pub named: bool,
     pub place: usize,

@@ -39,7 +39,7 @@ pub(crate) fn run(m: &[u8], top: u32, k: u32, want: bool) -> u32
     a + straight(m, 255, k - a, want)
 }
 
-#[derive(Drop)]
+#[derive(Clone, Copy)]
 pub(crate) struct PairBytes {
     pub(crate) bytes: [u8; 254],
     pub(crate) len: usize,

@@ -1,4 +1,6 @@
 // The tracker of received packet numbers, by value; in place is `recorded`. The Rust's `RemoteAckManager`.
+#![tactic(auto)]
+
 pub mod recorded;
 
 ghost use Rattle.std.specs.Prelude.{◌≡◌};

@@ -1,7 +1,8 @@
 // SSU2 blocks: the table of their bodies, and what came of reading and writing them. No code: the definitions and their laws, for the crates that read and write.
-// Bytes of the payload: where they start, and how many they are.
 #![tactic(auto)]
-#[derive(Drop)]
+
+// Bytes of the payload: where they start, and how many they are.
+#[derive(Clone, Copy)]
 pub struct Part {
     pub start: usize,
     pub len: usize,
@@ -32,7 +33,7 @@ pub const ACK_THROUGH: usize = 0;
 pub const ACK_COUNT: usize = 1;
 
 // What follows the fields of a body.
-#[derive(Drop)]
+#[derive(Clone, Copy)]
 pub enum After {
     // Nothing.
     Nothing,
@@ -47,14 +48,14 @@ pub enum After {
 }
 
 // Where a block ends: its type, its size field as it stands and the place after it; or a refusal, at the block's type byte.
-#[derive(Drop)]
+#[derive(Clone, Copy)]
 pub enum Extent {
     Ends { kind: u8, size: u16, next: usize },
     Refused { number: u32, place: usize },
 }
 
 // What reading a block gives: where it ends, or its refusal; its fields in 01's order, 0 where a type has fewer than eight; the bytes after them.
-#[derive(Drop)]
+#[derive(Clone, Copy)]
 pub struct Read {
     pub extent: Extent,
     pub fields: [u64; 8],
@@ -62,14 +63,14 @@ pub struct Read {
 }
 
 // How many bytes of a payload a body takes, or why it cannot.
-#[derive(Drop)]
+#[derive(Clone, Copy)]
 pub enum Taken {
     Bytes { count: usize },
     Refused { number: u32 },
 }
 
 // What came of writing a block: its length, or the number of the refusal.
-#[derive(Drop)]
+#[derive(Clone, Copy)]
 pub enum Written {
     Length { count: usize },
     Refused { number: u32 },

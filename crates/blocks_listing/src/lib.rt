@@ -8,7 +8,7 @@ use wire_numbers::be_u16;
 
 // One block of a listing: its place, its type and its size field as it stands.
 #[repr(C)]
-#[derive(Drop)]
+#[derive(Clone, Copy)]
 pub struct Entry {
     pub place: usize,
     pub kind: u8,
@@ -16,7 +16,7 @@ pub struct Entry {
 }
 
 // A record, and the place after its block.
-#[derive(Drop)]
+#[derive(Clone, Copy)]
 pub struct Step {
     pub entry: Entry,
     pub next: usize,
@@ -24,7 +24,7 @@ pub struct Step {
 
 // What came of a listing: 0 and the count of blocks, or the number of the refusal and its place.
 #[repr(C)]
-#[derive(Drop)]
+#[derive(Clone, Copy)]
 pub struct Answer {
     pub number: u32,
     pub place: usize,

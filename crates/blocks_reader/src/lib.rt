@@ -1,4 +1,6 @@
 // Reading one block, by its row: its fields as numbers, its bytes as a part of the payload.
+#![tactic(auto)]
+
 ghost use Rattle.std.specs.Prelude.{◌≡◌, ◌+◌, ◌<◌, ◌≤◌, length};
 ghost use Rattle.blocks.specs.Layout.{fields_at, eight};
 ghost use Rattle.blocks.specs.Table.{widths, field_length};

@@ -1,4 +1,6 @@
 // Sound bodies, which nearly all are: what one takes is known by type and size alone, and its tests are few. Bits in place of branches: a listing's cost is its branches.
+#![tactic(auto)]
+
 ghost use Rattle.std.specs.Prelude.{◌≡◌, ◌+◌, ◌<◌, ◌≤◌, cond, ltb, length};
 ghost use Rattle.blocks.specs.Extent.{ignores_size, extent_at};
 ghost use Rattle.blocks.specs.Sound.{floor_of, counted, body_length, sound, tested};

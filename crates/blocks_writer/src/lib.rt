@@ -1,4 +1,6 @@
 // Writing one block to the start of a room, by its row: its type and its fields, and its bytes as they are lent.
+#![tactic(auto)]
+
 ghost use Rattle.std.specs.Prelude.{◌≡◌, true, cond, [], ◌∷◌, ◌+◌, ◌≤◌, length};
 ghost use Rattle.wire.specs.Parts.{splice};
 ghost use Rattle.blocks.specs.Table.{after_fields, typed, field_length, carries, allowed};

@@ -2,7 +2,7 @@
 #![tactic(auto)]
 
 // The fields of a header of 32 or 64 bytes: the Rust's dst_id, pkt_num, version, net_id, src_id and token.
-#[derive(Drop)]
+#[derive(Clone, Copy)]
 pub struct Long {
     pub destination: u64,
     pub number: u32,
@@ -13,7 +13,7 @@ pub struct Long {
 }
 
 // A header that was read. SessionRequest and SessionCreated have a key of 32 bytes at 32.
-#[derive(Drop)]
+#[derive(Clone, Copy)]
 pub enum HeaderKind {
     SessionRequest(Long),
     SessionCreated(Long),
@@ -35,14 +35,14 @@ pub enum HeaderKind {
 }
 
 // What reading finds: a header, or a refusal by document 01's number.
-#[derive(Drop)]
+#[derive(Clone, Copy)]
 pub enum Answer {
     Header(HeaderKind),
     Refused(u32),
 }
 
 // What is to be written: the type by its number, and the fields that it has; the others are passed over.
-#[derive(Drop)]
+#[derive(Clone, Copy)]
 pub struct Fields {
     pub kind: u8,
     pub destination: u64,

@@ -1,5 +1,6 @@
 // The tests on a header's type, version and number, and the order of the refusals.
 #![tactic(auto)]
+
 ghost use Rattle.std.specs.Prelude.{◌≡◌};
 ghost use Rattle.header.specs.Kinds.{is_keyed, is_short, is_middle, is_listed, is_version, masked_length, need_of};
 ghost use Rattle.header.specs.Reading.{front_refusal};

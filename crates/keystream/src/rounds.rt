@@ -9,7 +9,7 @@ use std::num::wrapping_add_u32;
 use wire_numbers::{le_u32, put_u32_le};
 
 // Four words of the state.
-#[derive(Drop)]
+#[derive(Clone, Copy)]
 pub struct Quad {
     pub a: u32,
     pub b: u32,

@@ -15,7 +15,7 @@ use reassembly::Reply;
 
 // A call's answer: 01's number, and where a message that was received stands: 0 nowhere, 1 in the payload, 2 in the assembly buffer.
 #[repr(C)]
-#[derive(Drop)]
+#[derive(Clone, Copy)]
 pub struct Received {
     pub number: u32,
     pub from: u8,

@@ -6,7 +6,7 @@ use blocks::Written;
 
 // 0 and a length or a place; or the number of the refusal and, where a block is read, its place.
 #[repr(C)]
-#[derive(Drop)]
+#[derive(Clone, Copy)]
 pub struct Outcome {
     pub number: u64,
     pub value: u64,

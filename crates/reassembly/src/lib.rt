@@ -42,7 +42,7 @@ pub const COUNT_AT: usize = 2337;
 
 // A slot: the message's id, the second it was opened in, its expiration and type once number 0 is held, the bytes held in all,
 // how many numbers are held (0: the slot is free), the last number (0: not known), the highest number held.
-#[derive(Drop)]
+#[derive(Clone, Copy)]
 pub struct Head {
     pub id: u32,
     pub opened: u64,
@@ -55,14 +55,14 @@ pub struct Head {
 }
 
 // Where a held piece stands in its slot's room, and its length (0: the number is not held).
-#[derive(Drop)]
+#[derive(Clone, Copy)]
 pub struct Entry {
     pub place: u16,
     pub len: u16,
 }
 
 // What comes with a piece's bytes: its message's id, its number, whether it is the last, and with number 0 the message's type and expiration.
-#[derive(Drop)]
+#[derive(Clone, Copy)]
 pub struct Label {
     pub id: u32,
     pub number: u8,
@@ -73,7 +73,7 @@ pub struct Label {
 
 // A call's answer: 01's number, and with 60 the finished message's type, expiration and length in the assembly buffer.
 #[repr(C)]
-#[derive(Drop)]
+#[derive(Clone, Copy)]
 pub struct Reply {
     pub number: u8,
     pub kind: u8,

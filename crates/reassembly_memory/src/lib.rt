@@ -1,4 +1,6 @@
 // The finished messages of a neighbour that are remembered, in its share of the record: 16 ids, 16 seconds and how many of them are in use.
+#![tactic(auto)]
+
 ghost use Rattle.std.specs.Prelude.{◌≡◌, ◌+◌, ◌<◌, ◌≤◌, length};
 ghost use Rattle.reassembly.specs.Sizes.{most_remembered, share_size};
 ghost use Rattle.reassembly.specs.Memory.{remembers};

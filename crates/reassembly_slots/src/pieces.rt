@@ -9,7 +9,7 @@ use reassembly::{Entry, SLOT_SIZE};
 use wire::usize_from_u16;
 
 // What the record says of a piece or a message: whether it names bytes outside its slot's room, and the length.
-#[derive(Drop)]
+#[derive(Clone, Copy)]
 pub struct Measured {
     pub outside: bool,
     pub size: usize,

@@ -17,14 +17,14 @@ pub const PACKET_SIZE: usize = 16;
 pub const SENDER_SIZE: usize = 4104;
 
 // What a send or a resend answers: 0 and the number that it gave out; or a refusal.
-#[derive(Drop)]
+#[derive(Clone, Copy)]
 pub struct Given {
     pub answer: u32,
     pub number: u32,
 }
 
 // What an ack answers: 0 and how many packets it settled; or a refusal.
-#[derive(Drop)]
+#[derive(Clone, Copy)]
 pub struct Acked {
     pub answer: u32,
     pub count: usize,

@@ -14,7 +14,7 @@ ghost use Rattle.sender_acks.specs.Unnamed.{Unnamed};
 use sender::{Acked, SENDER_SIZE};
 
 // Where the walks stand: so many packets are settled, and the pairs from place on speak of numbers below low. The numbers from first to last are all named, or none is.
-#[derive(Drop)]
+#[derive(Clone, Copy)]
 struct Walk {
     told: usize,
     place: usize,
@@ -25,7 +25,7 @@ struct Walk {
 }
 
 // The packets that are passed before the first that is named, and where the walk stands then.
-#[derive(Drop)]
+#[derive(Clone, Copy)]
 struct Start {
     passed: usize,
     walk: Walk,

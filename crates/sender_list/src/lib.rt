@@ -1,4 +1,6 @@
 // The sender's calls but for the ack, on a record that the caller lends: changed in place, without a copy. All zero is a sender that has given out nothing.
+#![tactic(auto)]
+
 ghost use Rattle.std.specs.Prelude.{◌≡◌, ◌+◌, ◌≤◌, length};
 ghost use Rattle.wire.specs.Numbers.{little_bytes};
 ghost use Rattle.sender.specs.Sender.{send, resend, place_of};

@@ -5,46 +5,76 @@ use native.Mathlib.Omega.{arith}
 use Rattle.acks.proofs.Filling.{wrote_start, wrote-step, wrote_end, spends, room_left_lem}
 use Rattle.acks_expand.proofs.fill_pairs.Goals as goal
 
-spent : (d : goal.After-byte-ack) → d.byte-nack.result + d.byte-ack.result ≤ d.loop-i.above
-spent d =
-    let a = d.args in
-    let i = d.loop-i in
-    omega (
-      arith,
-      spends a.pairs.now a.list.now a.place a.top d.requires.1 i.list i.at i.above i.i i.invariant (omega arith),
-      d.byte-nack.ensures.0,
-      d.byte-ack.ensures.0,
-    )
-
-roomy : (d : goal.After-byte-ack) → d.loop-i.at + d.byte-ack.result ≤ length d.loop-i.list
-roomy d =
-    let a = d.args in
-    let i = d.loop-i in
-    omega (
-      arith,
-      room_left_lem a.pairs.now a.list.now a.place a.top d.requires.1 i.list i.at i.above i.i i.invariant (omega arith),
-      d.byte-ack.ensures.0,
-    )
-
 pub loop-i-init : goal.loop-i-init
 loop-i-init c =
     let a = c.args in
     wrote_start a.pairs.now a.list.now a.place a.top c.requires.1 c.requires.0
 
 pub overflow_sub-above : goal.overflow_sub-above
-overflow_sub-above c = omega (arith, spent c.before)
+overflow_sub-above c =
+    let spent : c.byte-nack.result + c.byte-ack.result ≤ c.loop-i.above = let a = c.args in
+    let i = c.loop-i in
+    omega (
+      arith,
+      spends a.pairs.now a.list.now a.place a.top c.requires.1 i.list i.at i.above i.i i.invariant (omega arith),
+      c.byte-nack.ensures.0,
+      c.byte-ack.ensures.0,
+    ) in
+    omega (arith, spent)
 
 pub fall-requires : goal.fall-requires
-fall-requires c = (roomy c.before, omega (arith, spent c.before))
+fall-requires c =
+    let spent : c.byte-nack.result + c.byte-ack.result ≤ c.loop-i.above = let a = c.args in
+    let i = c.loop-i in
+    omega (
+      arith,
+      spends a.pairs.now a.list.now a.place a.top c.requires.1 i.list i.at i.above i.i i.invariant (omega arith),
+      c.byte-nack.ensures.0,
+      c.byte-ack.ensures.0,
+    ) in
+    let roomy : c.loop-i.at + c.byte-ack.result ≤ length c.loop-i.list = let a = c.args in
+    let i = c.loop-i in
+    omega (
+      arith,
+      room_left_lem a.pairs.now a.list.now a.place a.top c.requires.1 i.list i.at i.above i.i i.invariant (omega arith),
+      c.byte-ack.ensures.0,
+    ) in
+    (roomy, omega (arith, spent))
 
 pub overflow_sub-above-in-loop-i : goal.overflow_sub-above-in-loop-i
-overflow_sub-above-in-loop-i c = omega (arith, spent c.before.before.before.before)
+overflow_sub-above-in-loop-i c =
+    let spent : c.byte-nack.result + c.byte-ack.result ≤ c.loop-i.above = let a = c.args in
+    let i = c.loop-i in
+    omega (
+      arith,
+      spends a.pairs.now a.list.now a.place a.top c.requires.1 i.list i.at i.above i.i i.invariant (omega arith),
+      c.byte-nack.ensures.0,
+      c.byte-ack.ensures.0,
+    ) in
+    omega (arith, spent)
 
 pub overflow_sub-above-in-loop-i-2 : goal.overflow_sub-above-in-loop-i-2
-overflow_sub-above-in-loop-i-2 c = omega (arith, spent c.before.before.before.before)
+overflow_sub-above-in-loop-i-2 c =
+    let spent : c.byte-nack.result + c.byte-ack.result ≤ c.loop-i.above = let a = c.args in
+    let i = c.loop-i in
+    omega (
+      arith,
+      spends a.pairs.now a.list.now a.place a.top c.requires.1 i.list i.at i.above i.i i.invariant (omega arith),
+      c.byte-nack.ensures.0,
+      c.byte-ack.ensures.0,
+    ) in
+    omega (arith, spent)
 
 pub overflow_add-at : goal.overflow_add-at
-overflow_add-at c = omega (arith, roomy c.before.before.before.before, c.loop-i.invariant.same)
+overflow_add-at c =
+    let roomy : c.loop-i.at + c.byte-ack.result ≤ length c.loop-i.list = let a = c.args in
+    let i = c.loop-i in
+    omega (
+      arith,
+      room_left_lem a.pairs.now a.list.now a.place a.top c.requires.1 i.list i.at i.above i.i i.invariant (omega arith),
+      c.byte-ack.ensures.0,
+    ) in
+    omega (arith, roomy, c.loop-i.invariant.same)
 
 pub loop-i-preserved : goal.loop-i-preserved
 loop-i-preserved c =

@@ -3,14 +3,14 @@ use native.Mathlib.Omega.{arith}
 use mathlib.Core.Bool.{true, false}
 use mathlib.Core.Path.{◌≡◌, sym, ◌∙◌}
 use Prim.Native.Nat.{◌≤◌, ◌-◌}
-use Rattle.reassembly.specs.Slots.{first_from, is_open_as}
-use Rattle.reassembly.proofs.Branches.{open_as}
-use Rattle.reassembly.proofs.Scan.{first_hit, first_miss, first_end}
+use Rattle.reassembly.specs.Slots.{firstFrom, isOpenAs}
+use Rattle.reassembly.proofs.Branches.{open-as}
+use Rattle.reassembly.proofs.Scan.{first-hit, first-miss, first-end}
 use Rattle.reassembly_slots.proofs.find.Statement.{statement}
 use Rattle.reassembly_slots.proofs.find.Tie as tie
 
 abbrev invariant-loop : tie.invariant-loop
-invariant-loop rec id i₀ i = (i ≤ 4) × (first_from (is_open_as rec id) 0 4 ≡ first_from (is_open_as rec id) i (4 - i))
+invariant-loop rec id i₀ i = (i ≤ 4) × (firstFrom (isOpenAs rec id) 0 4 ≡ firstFrom (isOpenAs rec id) i (4 - i))
 
 abbrev decreases-loop : tie.decreases-loop
 decreases-loop rec id i₀ i = 4 - i
@@ -28,8 +28,8 @@ returns : tie.Need-returns invariant-loop decreases-loop
 returns c =
     let a = c.before.before.before.before.before.before.args in
     let i = c.before.before.before.before.loop.i in
-    let t : is_open_as a.rec.now a.id i ≡ true = open_as a.rec.now a.id i c.before.before.load-head.result c.before.opened-as.result true c.before.before.load-head.ensures c.before.opened-as.ensures c.if1.true in
-    sym (c.before.before.before.before.loop.invariant.1 ∙ first_hit (is_open_as a.rec.now a.id) i 4 (omega arith) t)
+    let t : isOpenAs a.rec.now a.id i ≡ true = open-as a.rec.now a.id i c.before.before.load-head.result c.before.opened-as.result true c.before.before.load-head.ensures c.before.opened-as.ensures c.if1.true in
+    sym (c.before.before.before.before.loop.invariant.1 ∙ first-hit (isOpenAs a.rec.now a.id) i 4 (omega arith) t)
 
 add-i : tie.Need-overflow-add-i invariant-loop decreases-loop
 add-i c = search rules
@@ -41,13 +41,13 @@ loop-again : tie.Need-loop-preserved invariant-loop decreases-loop
 loop-again c =
     let a = c.before.before.before.before.before.before.args in
     let i = c.before.before.before.before.loop.i in
-    let t : is_open_as a.rec.now a.id i ≡ false = open_as a.rec.now a.id i c.before.before.load-head.result c.before.opened-as.result false c.before.before.load-head.ensures c.before.opened-as.ensures c.if1.false in
-    (omega arith, c.before.before.before.before.loop.invariant.1 ∙ first_miss (is_open_as a.rec.now a.id) i 4 (omega arith) t)
+    let t : isOpenAs a.rec.now a.id i ≡ false = open-as a.rec.now a.id i c.before.before.load-head.result c.before.opened-as.result false c.before.before.load-head.ensures c.before.opened-as.ensures c.if1.false in
+    (omega arith, c.before.before.before.before.loop.invariant.1 ∙ first-miss (isOpenAs a.rec.now a.id) i 4 (omega arith) t)
 
 returns-2 : tie.Need-returns-2 invariant-loop decreases-loop
 returns-2 c =
     let a = c.before.before.before.args in
-    sym (c.before.loop.invariant.1 ∙ first_end (is_open_as a.rec.now a.id) c.before.loop.i 4 (omega arith))
+    sym (c.before.loop.invariant.1 ∙ first-end (isOpenAs a.rec.now a.id) c.before.loop.i 4 (omega arith))
 
 pub find_spec : {M : Type 1} → statement M
 find_spec =

@@ -3,14 +3,14 @@ use native.Mathlib.Omega.{arith}
 use mathlib.Core.Bool.{true, false}
 use mathlib.Core.Path.{◌≡◌, sym, ◌∙◌}
 use Prim.Native.Nat.{◌≤◌, ◌-◌}
-use Rattle.reassembly.specs.Slots.{first_from, is_free}
-use Rattle.reassembly.proofs.Branches.{free_as}
-use Rattle.reassembly.proofs.Scan.{first_hit, first_miss, first_end}
+use Rattle.reassembly.specs.Slots.{firstFrom, isFree}
+use Rattle.reassembly.proofs.Branches.{free-as}
+use Rattle.reassembly.proofs.Scan.{first-hit, first-miss, first-end}
 use Rattle.reassembly_slots.proofs.vacant.Statement.{statement}
 use Rattle.reassembly_slots.proofs.vacant.Tie as tie
 
 abbrev invariant-loop : tie.invariant-loop
-invariant-loop rec i₀ i = (i ≤ 4) × (first_from (is_free rec) 0 4 ≡ first_from (is_free rec) i (4 - i))
+invariant-loop rec i₀ i = (i ≤ 4) × (firstFrom (isFree rec) 0 4 ≡ firstFrom (isFree rec) i (4 - i))
 
 abbrev decreases-loop : tie.decreases-loop
 decreases-loop rec i₀ i = 4 - i
@@ -28,8 +28,8 @@ returns : tie.Need-returns invariant-loop decreases-loop
 returns c =
     let a = c.before.before.before.before.before.before.args in
     let i = c.before.before.before.before.loop.i in
-    let t : is_free a.rec.now i ≡ true = free_as a.rec.now i c.before.before.load-head.result c.before.unused.result true c.before.before.load-head.ensures c.before.unused.ensures c.if1.true in
-    sym (c.before.before.before.before.loop.invariant.1 ∙ first_hit (is_free a.rec.now) i 4 (omega arith) t)
+    let t : isFree a.rec.now i ≡ true = free-as a.rec.now i c.before.before.load-head.result c.before.unused.result true c.before.before.load-head.ensures c.before.unused.ensures c.if1.true in
+    sym (c.before.before.before.before.loop.invariant.1 ∙ first-hit (isFree a.rec.now) i 4 (omega arith) t)
 
 add-i : tie.Need-overflow-add-i invariant-loop decreases-loop
 add-i c = search rules
@@ -41,13 +41,13 @@ loop-again : tie.Need-loop-preserved invariant-loop decreases-loop
 loop-again c =
     let a = c.before.before.before.before.before.before.args in
     let i = c.before.before.before.before.loop.i in
-    let t : is_free a.rec.now i ≡ false = free_as a.rec.now i c.before.before.load-head.result c.before.unused.result false c.before.before.load-head.ensures c.before.unused.ensures c.if1.false in
-    (omega arith, c.before.before.before.before.loop.invariant.1 ∙ first_miss (is_free a.rec.now) i 4 (omega arith) t)
+    let t : isFree a.rec.now i ≡ false = free-as a.rec.now i c.before.before.load-head.result c.before.unused.result false c.before.before.load-head.ensures c.before.unused.ensures c.if1.false in
+    (omega arith, c.before.before.before.before.loop.invariant.1 ∙ first-miss (isFree a.rec.now) i 4 (omega arith) t)
 
 returns-2 : tie.Need-returns-2 invariant-loop decreases-loop
 returns-2 c =
     let a = c.before.before.before.args in
-    sym (c.before.loop.invariant.1 ∙ first_end (is_free a.rec.now) c.before.loop.i 4 (omega arith))
+    sym (c.before.loop.invariant.1 ∙ first-end (isFree a.rec.now) c.before.loop.i 4 (omega arith))
 
 pub vacant-spec : {M : Type 1} → statement M
 vacant-spec =

@@ -3,7 +3,7 @@ use native.Mathlib.Omega.{arith}
 use lib.ListN.{length}
 use Rattle.reassembly.specs.declared.Entry.{Entry}
 use Rattle.reassembly.specs.Record.{outside}
-use Rattle.reassembly.proofs.Joined.{outside_given, outside_held, length_given, length_held}
+use Rattle.reassembly.proofs.Joined.{outside-given, outside-held, length-given, length-held}
 use borrow.Author.Rules.{rules}
 use Rattle.reassembly_slots.proofs.pieces.measure_one.Statement.{statement}
 use Rattle.reassembly_slots.proofs.pieces.measure_one.Tie as tie
@@ -11,8 +11,8 @@ use Rattle.reassembly_slots.proofs.pieces.measure_one.Tie as tie
 returns : tie.Need-returns
 returns c =
     let a = c.before.before.before.args in (
-      sym (outside_given a.rec.now a.i a.m a.k c.if1.true),
-      sym (length_given a.rec.now a.i a.m (length a.v.now) a.k c.if1.true),
+      sym (outside-given a.rec.now a.i a.m a.k c.if1.true),
+      sym (length-given a.rec.now a.i a.m (length a.v.now) a.k c.if1.true),
       omega arith,
     )
 
@@ -30,8 +30,8 @@ returns-2 c =
     let a = c.before.before.before.before.before.before.args in
     let t = c.before.before.before.if1.false in
     let e = c.before.before.load-entry.ensures in (
-      c.before.outside.ensures ∙ ap outside e ∙ sym (outside_held a.rec.now a.i a.m a.k t),
-      c.usize-from-u16.ensures.0 ∙ ap (λ (x : Entry). x.len) e ∙ sym (length_held a.rec.now a.i a.m (length a.v.now) a.k t),
+      c.before.outside.ensures ∙ ap outside e ∙ sym (outside-held a.rec.now a.i a.m a.k t),
+      c.usize-from-u16.ensures.0 ∙ ap (λ (x : Entry). x.len) e ∙ sym (length-held a.rec.now a.i a.m (length a.v.now) a.k t),
       omega arith,
     )
 

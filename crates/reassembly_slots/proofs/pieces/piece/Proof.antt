@@ -5,9 +5,9 @@ use native.Mathlib.Omega.{arith}
 use lib.ListN.{take, drop}
 use Rattle.wire.specs.Parts.{part}
 use Rattle.wire.proofs.Slices.{slice_is}
-use Rattle.reassembly.specs.Sizes.{slot_size}
-use Rattle.reassembly.specs.Record.{outside, room_of, piece_at}
-use Rattle.reassembly.proofs.Joined.{inside_le}
+use Rattle.reassembly.specs.Sizes.{slotSize}
+use Rattle.reassembly.specs.Record.{outside, roomOf, piece_at}
+use Rattle.reassembly.proofs.Joined.{inside-le}
 use borrow.Author.Rules.{rules}
 use Rattle.reassembly_slots.proofs.pieces.piece.Statement.{statement}
 use Rattle.reassembly_slots.proofs.pieces.piece.Tie as tie
@@ -48,18 +48,18 @@ part-result-start c = search rules
 part-result-end : tie.Need-slice-bounds-result-end
 part-result-end c =
     let e = c.before.before.before.load-entry in
-    let q : e.result.place + e.result.len ≤ slot_size = inside_le e.result (ap outside e.ensures ∙ c.before.before.before.before.before.before.requires.4) in
+    let q : e.result.place + e.result.len ≤ slotSize = inside-le e.result (ap outside e.ensures ∙ c.before.before.before.before.before.before.requires.4) in
     search rules
 
 returns : tie.Need-returns
-unfolding room_of piece_at
+unfolding roomOf piece_at
 returns c =
     let a = c.before.before.before.before.before.before.before.args in
     let p = c.before.before.before.usize-from-u16.result in
     let n = c.before.before.usize-from-u162.result in
-    let b : ℕ = a.i * slot_size in
-    ap (λ (z : List ℕ). take (p + n - p) (drop p z)) (slice_is a.room.now b slot_size)
-    ∙ slice_is (part a.room.now b slot_size) p n
+    let b : ℕ = a.i * slotSize in
+    ap (λ (z : List ℕ). take (p + n - p) (drop p z)) (slice_is a.room.now b slotSize)
+    ∙ slice_is (part a.room.now b slotSize) p n
     ∙ cc
 
 pub piece-spec : {M : Type 1} → statement M

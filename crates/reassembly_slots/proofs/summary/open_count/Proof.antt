@@ -1,5 +1,5 @@
 use mathlib.Core.Path.{refl}
-use Rattle.reassembly.specs.Summary.{open_count}
+use Rattle.reassembly.specs.Summary.{openCount}
 use borrow.Author.Rules.{rules}
 use Rattle.reassembly_slots.proofs.summary.open_count.Statement.{statement}
 use Rattle.reassembly_slots.proofs.summary.open_count.Tie as tie
@@ -8,7 +8,7 @@ shared-slice-read-result : tie.Need-shared-slice-read-result
 shared-slice-read-result c = search rules
 
 returns : tie.Need-returns
-unfolding open_count
+unfolding openCount
 returns c = refl
 
 pub open-count-spec : {M : Type 1} → statement M

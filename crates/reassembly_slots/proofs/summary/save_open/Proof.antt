@@ -1,8 +1,8 @@
 use native.Mathlib.Omega.{arith}
 use mathlib.Core.List.{[]}
-use Rattle.wire.proofs.Parts.{stores_splice}
+use Rattle.wire.proofs.Parts.{stores-splice}
 use Rattle.reassembly.specs.Sizes.{open_at}
-use Rattle.reassembly.specs.Summary.{with_open}
+use Rattle.reassembly.specs.Summary.{withOpen}
 use borrow.Author.Rules.{rules}
 use Rattle.reassembly_slots.proofs.summary.save_open.Statement.{statement}
 use Rattle.reassembly_slots.proofs.summary.save_open.Tie as tie
@@ -14,8 +14,8 @@ same_length : tie.Need-same-length
 same_length c = search rules
 
 returns : tie.Need-returns
-unfolding with_open
-returns c = stores_splice c.args.rec.now open_at c.args.n [] (omega arith)
+unfolding withOpen
+returns c = stores-splice c.args.rec.now open_at c.args.n [] (omega arith)
 
 pub save-open-spec : {M : Type 1} → statement M
 save-open-spec = tie.close (tie.spec slice-write-rec same_length returns)
