@@ -1,4 +1,6 @@
 // Listing a payload: a record for each block, in a list that the caller lends. The Rust's `parse_multiple`.
+#![tactic(auto)]
+
 ghost use Rattle.std.specs.Prelude.{◌≡◌, cond, length};
 ghost use Rattle.blocks_listing.specs.Listing.{extent_refusal, stays_at, step_at, listing, listing_answer, entries_after};
 

@@ -1,4 +1,6 @@
 // The three masks of a header. Both nonces are taken before anything changes: at 64 bytes they lie in the long header.
+#![tactic(auto)]
+
 ghost use Rattle.std.specs.Prelude.{◌≡◌, ◌+◌, ◌≤◌, length, get_or};
 ghost use Rattle.wire.specs.Parts.{part, splice};
 ghost use Rattle.header.specs.Kinds.{masked_length};

@@ -1,5 +1,6 @@
 // The slots of a neighbour, in its share of the lent bytes. Here: the slot of a message, found by its id, or the first that is free.
 #![tactic(auto)]
+
 pub mod pieces; // pieces.rt: held pieces, and the message that they make
 pub mod summary; // summary.rt: how many messages are open
 

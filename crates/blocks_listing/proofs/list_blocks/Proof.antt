@@ -53,7 +53,7 @@ use denote.Exit.{yes}
 use Rattle.blocks_listing.specs.declared.Entry.{Entry}
 use Rattle.blocks_listing.specs.declared.Step.{Step}
 use Rattle.blocks_listing.specs.declared.Answer.{Answer}
-use Rattle.blocks_listing.specs.Listing.{step_at, listing, listing_answer, entries_after, entries_from}
+use Rattle.blocks_listing.specs.Listing.{stepAt, listing, listingAnswer, entriesAfter, entriesFrom}
 use Rattle.blocks_listing.proofs.Walk.{filling}
 use Rattle.blocks_listing.specs.contracts.Entry as T
 use Rattle.blocks_listing.proofs.Entry.TheLaws as T'
@@ -99,11 +99,11 @@ module _ {M : Type 1} {𝓤 : Ura M} (𝓛 : Logic 𝓤) (mem : Memory → SProp
   abbrev StepAt : Contract 𝓤
   StepAt = triple_of 𝓛 step.signature (step.spec 𝓛 mem run)
 
-  count-said : (κ : Lft) (p : Bor (List ℕ)) (m : ℕ) (r : Answer) → ent 𝓤 (ensured 𝓛 count.ended (count.clauses 𝓛 mem run) (κ, tt) (p, (m, tt)) tt r) (fact 𝓤 (r ≡ listing_answer (listing m p.now)))
-  count-said κ p m r = ex_e 𝓤 _ (λ ws. snd∗ 𝓤 (sem 𝓛 (lasts count.ended (κ, tt) (p, (m, tt)) ws)) (fact 𝓤 (r ≡ listing_answer (listing m p.now))))
+  count-said : (κ : Lft) (p : Bor (List ℕ)) (m : ℕ) (r : Answer) → ent 𝓤 (ensured 𝓛 count.ended (count.clauses 𝓛 mem run) (κ, tt) (p, (m, tt)) tt r) (fact 𝓤 (r ≡ listingAnswer (listing m p.now)))
+  count-said κ p m r = ex_e 𝓤 _ (λ ws. snd∗ 𝓤 (sem 𝓛 (lasts count.ended (κ, tt) (p, (m, tt)) ws)) (fact 𝓤 (r ≡ listingAnswer (listing m p.now))))
 
-  step-said : (κ : Lft) (p : Bor (List ℕ)) (m : ℕ) (r : Step) → ent 𝓤 (ensured 𝓛 step.ended (step.clauses 𝓛 mem run) (κ, tt) (p, (m, tt)) tt r) (fact 𝓤 (r ≡ step_at p.now m))
-  step-said κ p m r = ex_e 𝓤 _ (λ ws. snd∗ 𝓤 (sem 𝓛 (lasts step.ended (κ, tt) (p, (m, tt)) ws)) (fact 𝓤 (r ≡ step_at p.now m)))
+  step-said : (κ : Lft) (p : Bor (List ℕ)) (m : ℕ) (r : Step) → ent 𝓤 (ensured 𝓛 step.ended (step.clauses 𝓛 mem run) (κ, tt) (p, (m, tt)) tt r) (fact 𝓤 (r ≡ stepAt p.now m))
+  step-said κ p m r = ex_e 𝓤 _ (λ ws. snd∗ 𝓤 (sem 𝓛 (lasts step.ended (κ, tt) (p, (m, tt)) ws)) (fact 𝓤 (r ≡ stepAt p.now m)))
 
 -- a state of the loop: `left` stores are to come, the next at i of the block at `at`; n are to be made in all, on the list ys
 record Turn (s : List ℕ) (n : ℕ) (ys : List Entry) : Type 0 where
@@ -114,7 +114,7 @@ record Turn (s : List ℕ) (n : ℕ) (ys : List Entry) : Type 0 where
   sum : i + left ≡ n
   fits : at < 2 ^ 64
   long : length cur ≡ length ys
-  comes : sets cur i (entries_from left s at) ≡ sets ys 0 (entries_from n s 0)
+  comes : sets cur i (entriesFrom left s at) ≡ sets ys 0 (entriesFrom n s 0)
 
 module _ {M : Type 1} {𝓤 : Ura M} (𝓛 : Logic 𝓤) (at_mem : Memory → SProp 𝓤) (run : Routine → Fun 𝓤) (κ κ' : Lft) (q q' : Share) (p : MutBor (List ℕ)) (b o : ℕ) (γ : GName) (ys : List Entry) (room₁ : Room u8 (length p.now)) (room : Room R (length ys)) where
   open 𝓛 use {H, A}
@@ -146,17 +146,17 @@ module _ {M : Type 1} {𝓤 : Ura M} (𝓛 : Logic 𝓤) (at_mem : Memory → SP
   Own = (ShrSlice (named 0) κ u8).own_val p (v₁ ∷ [])
 
   abbrev answer : Answer
-  answer = listing_answer (listing (length ys) p.now)
+  answer = listingAnswer (listing (length ys) p.now)
 
   abbrev w : Val
   w = LL.val L.the_type L'.the_laws answer
 
   -- what is had at exit, with the last list cur
-  exits : (cur : List Entry) → Is L.the_row answer (w ∷ []) → length cur ≡ length ys → cur ≡ entries_after (listing (length ys) p.now) ys
+  exits : (cur : List Entry) → Is L.the_row answer (w ∷ []) → length cur ≡ length ys → cur ≡ entriesAfter (listing (length ys) p.now) ys
       → ent 𝓤 (⋆ 𝓛 (‵ (fobs γ ((coded_holeys R).code (heres R cur))) ∷ ‵ (fbor κ' (Held R (length cur) b o γ)) ∷ ‵ (flft κ' q') ∷ ‵ Own ∷ ‵ (flft κ q) ∷ [])) (Post w)
-  exits cur is long done_is =
+  exits cur is long done-is =
       qed 𝓛 (‵ (fobs γ ((coded_holeys R).code (heres R cur))) ∷ ‵ (fbor κ' (Held R (length cur) b o γ)) ∷ ‵ (flft κ' q') ∷ ‵ Own ∷ ‵ (flft κ q) ∷ []) ∵
-      suffices ! _ (ends_at 𝓛 list-blocks.ended stayed (list-blocks.clauses 𝓛 at_mem run) (((κ, (κ', tt)), (q, (q', tt)), tt, a, vals), tt) w answer (tt, (cur, tt)) (tt, (long, tt))) $ says ! (refl, done_is) $
+      suffices ! _ (ends_at 𝓛 list-blocks.ended stayed (list-blocks.clauses 𝓛 at_mem run) (((κ, (κ', tt)), (q, (q', tt)), tt, a, vals), tt) w answer (tt, (cur, tt)) (tt, (long, tt))) $ says ! (refl, done-is) $
       nothing ! $ move ! (3 ∷ 0 ∷ []) $ join ! $ move ! (4 ∷ 0 ∷ []) $ join ! $ frame ! $
       -- [obs; the borrow; what the payload owns]
       fjoin ! $ pure_i ! (mut_slice_at R (x cur) (v₂ ∷ [])) (tt, (tt, tt)) (ap (λ (m : ℕ). slice_val (b, o) m ∷ []) (sym long), subst (Room R) (sym long) room) $ fjoin ! $
@@ -223,7 +223,7 @@ module _ {M : Type 1} {𝓤 : Ura M} (𝓛 : Logic 𝓤) (at_mem : Memory → SP
       Left = after_block 𝓤 H (after_seq 𝓤 H (Wp 𝓤 H C Λ En mir.t-7 (at_return 𝓤 H En Post)) (at_return 𝓤 H En Post))
 
       -- the turn that leaves the loop, and the rest of the body: the borrow is closed at the list that is filled
-      ends : (X : SProp 𝓤) (i at : ℕ) (cur : List Entry) → n ≤ i → length cur ≡ length ys → cur ≡ sets ys 0 (entries_from n p.now 0) → Sq 𝓛 (At i at cur) (runs C Λ En mir.turn-1 (any_q (after_turn 𝓤 H X Left)))
+      ends : (X : SProp 𝓤) (i at : ℕ) (cur : List Entry) → n ≤ i → length cur ≡ length ys → cur ≡ sets ys 0 (entriesFrom n p.now 0) → Sq 𝓛 (At i at cur) (runs C Λ En mir.turn-1 (any_q (after_turn 𝓤 H X Left)))
       unfolding after_turn
       ends X i at cur end long is-filled =
           assigns ! (bin ! (load ! (from ! (stop !)) (look ! 14 refl)) (load ! (from ! (stop !)) (look ! 18 refl)) tt) (from ! (stop !)) (init ! 8 refl (tt, tt)) $
@@ -239,11 +239,11 @@ module _ {M : Type 1} {𝓤 : Ura M} (𝓛 : Logic 𝓤) (at_mem : Memory → SP
 
       -- a turn that stores one entry
       more : (X : SProp 𝓤) (i at : ℕ) (cur : List Entry) → i < n → at < 2 ^ 64 → length cur ≡ length ys
-          → ((step_at p.now at).next < 2 ^ 64 → Sq 𝓛 (At (suc i) (step_at p.now at).next (set cur i (step_at p.now at).entry)) (prop X))
+          → ((stepAt p.now at).next < 2 ^ 64 → Sq 𝓛 (At (suc i) (stepAt p.now at).next (set cur i (stepAt p.now at).entry)) (prop X))
           → Sq 𝓛 (At i at cur) (runs C Λ En mir.turn-1 (any_q (after_turn 𝓤 H X Left)))
       unfolding after_turn
       more X i at cur small fits long k =
-          let st = step_at p.now at in
+          let st = stepAt p.now at in
           let inside : i < length cur = omega (arith, within) in
           let bytes_fit : length ys * 16 < 2 ^ 63 = room.1 in
           let scaled : i * 16 < 2 ^ 64 = omega arith in
@@ -276,12 +276,12 @@ module _ {M : Type 1} {𝓤 : Ura M} (𝓛 : Logic 𝓤) (at_mem : Memory → SP
           forget ! 7 refl $ forget ! 9 refl $ forget ! 11 refl $ forget ! 15 refl $ rewrite ! 17 (λ (j : ℕ). ‵ (fat full_share word l₆ 0 (vint w64 j))) (add-one i) refl $
           keep ! (0 ∷ 4 ∷ 5 ∷ 6 ∷ 7 ∷ 8 ∷ 9 ∷ 10 ∷ 11 ∷ 12 ∷ 13 ∷ 14 ∷ 15 ∷ 16 ∷ 17 ∷ 18 ∷ 19 ∷ 20 ∷ 21 ∷ 22 ∷ 23 ∷ 24 ∷ 25 ∷ 26 ∷ 27 ∷ 28 ∷ 29 ∷ 30 ∷ 3 ∷ 1 ∷ []) $ k fields.1.0.1)))))
 
-      turn : (left i at : ℕ) (cur : List Entry) (sum : i + left ≡ n) (fits : at < 2 ^ 64) (long : length cur ≡ length ys) (comes : sets cur i (entries_from left p.now at) ≡ sets ys 0 (entries_from n p.now 0)) (t : State) → left ≡ t.left
+      turn : (left i at : ℕ) (cur : List Entry) (sum : i + left ≡ n) (fits : at < 2 ^ 64) (long : length cur ≡ length ys) (comes : sets cur i (entriesFrom left p.now at) ≡ sets ys 0 (entriesFrom n p.now 0)) (t : State) → left ≡ t.left
           → Sq 𝓛 (At i at cur) (runs C Λ En mir.turn-1 (any_q (after_turn 𝓤 H (Below 𝓛 less I t) Left)))
       turn zero i at cur sum fits long comes t e = ends (Below 𝓛 less I t) i at cur (omega arith) long comes
       turn (suc k) i at cur sum fits long comes t e =
           more (Below 𝓛 less I t) i at cur (omega arith) fits long (λ next_fits.
-          again ! less I t (record { left = k; i = suc i; at = (step_at p.now at).next; cur = set cur i (step_at p.now at).entry; sum = omega arith; fits = next_fits; long = length-set cur i (step_at p.now at).entry ∙ long; comes = comes }) (omega arith))
+          again ! less I t (record { left = k; i = suc i; at = (stepAt p.now at).next; cur = set cur i (stepAt p.now at).entry; sum = omega arith; fits = next_fits; long = length-set cur i (stepAt p.now at).entry ∙ long; comes = comes }) (omega arith))
 
       -- the loop, and the rest of the body
       looped : Sq 𝓛 (At 0 0 ys) (runs C Λ En mir.t-6 (at_ret En Post))

@@ -28,4 +28,4 @@ is_known-requires c = search rules
 
 pub returns : goal.returns
 unfolding is_proper
-returns c = rw (c.fit_fields.ensures ∙ ap (λ (ws : List ℕ). fits ws c.args.fields) c.widths_of.ensures, c.is_allowed.ensures, c.is_Known.ensures)
+returns c = rw (c.fit_fields.ensures ∙ ap (λ (ws : List ℕ). fits ws c.args.fields) c.widths_of.ensures, c.is_allowed.ensures, c.is_known.ensures)

@@ -6,13 +6,13 @@ use Rattle.reassembly_memory.proofs.forget.Goals as goal
 
 pub loop-k-preserved : goal.loop-k-preserved
 loop-k-preserved c =
-    let a = c.before.before.before.before.before.before.before.before.before.args in
+    let a = c.args in
     let l = c.loop-k in
     let one = c.sift_one-kept in
-    (search rules, search rules, search rules, search rules, search rules, search rules, sifted_turn a.rec.now a.second l.k l.auto one.result l.rec one.new.0 l.invariant.6 one.ensures.0)
+    (search rules, search rules, search rules, search rules, search rules, search rules, sifted_turn a.rec.now a.second l.k l.kept one.result l.rec one.new.rec l.invariant.6 one.ensures.0)
 
 pub returns : goal.returns
 returns c =
-    let a = c.before.before.before.before.before.before.before.before.before.args in
+    let a = c.args in
     let l = c.loop-k in
-    sifted_end a.rec.now a.second l.k l.auto l.rec c.save_count.new.rec l.invariant.6 (omega arith) c.save_count.ensures
+    sifted_end a.rec.now a.second l.k l.kept l.rec c.save_count.new.rec l.invariant.6 (omega arith) c.save_count.ensures

@@ -4,4 +4,4 @@ use Rattle.wire.proofs.Numbers.{little_mod}
 use Rattle.sender_list.proofs.one_more.Goals as goal
 
 pub returns : goal.returns
-returns c = ap (little_bytes 4) c.wrapping_add_u32.ensures ∙ little_mod 4 (c.args.resends + 1)
+returns c = ap (little_bytes 4) c.wrapping_add_u32.ensures.value ∙ little_mod 4 (c.args.resends + 1)

@@ -17,16 +17,16 @@ returns-then-tracker-lt-TRACKER_SIZE c = short_refused c.args.tracker.now c.args
 
 pub returns-then-answer-ne0 : goal.returns-then-answer-ne0
 returns-then-answer-ne0 c =
-    let a = c.before.before.before.before.before.before.before.before.args in
-    refused a.tracker.now c.le-u32.result a.n c.le-u32.ensures (omega arith)
-    c.answer-answer.result (λ i. (c.before.before.before.before.before.before.before.slice-known.given i).fits)
-    (c.answer-answer.ensures ∙ ap (λ (m : List ℕ). answer_to c.le-u32.result (is_duplicate c.le-u32.result m) a.n) (part_is a.tracker.now 4 255)) c.if-answer-ne0.true
+    let a = c.args in
+    refused a.tracker.now c.le_u32-top.result a.n c.le_u32-top.ensures (omega arith)
+    c.answer-answer.result (λ i. (c.slice_known-1.given i).fits)
+    (c.answer-answer.ensures ∙ ap (λ (m : List ℕ). answer_to c.le_u32-top.result (is_duplicate c.le_u32-top.result m) a.n) (part_is a.tracker.now 4 255)) c.if-answer-ne0.true
 
 pub returns : goal.returns
 returns c =
-    let a = c.before.before.before.before.before.before.before.before.before.before.before.before.before.before.before.before.before.args in
-    let top = c.le-u32.result in
-    let long : tracker_size ≤ length a.tracker.now = c.if1.false in
+    let a = c.args in
+    let top = c.le_u32-top.result in
+    let long : tracker_size ≤ length a.tracker.now = c.if-tracker-lt-TRACKER_SIZE.false in
     let zero : 0 ≡ answer_to top (is_duplicate top (part a.tracker.now 4 255)) a.n = sym c.if-answer-ne0.false ∙ c.answer-answer.ensures
     ∙ ap (λ (m : List ℕ). answer_to top (is_duplicate top m) a.n) (part_is a.tracker.now 4 255) in
     let put : c.put_u32_le.new.b ≡ splice a.tracker.now 0 (little_bytes 4 (max top a.n)) =
@@ -35,6 +35,6 @@ returns c =
     c.accept.auto.m
     ∙ ap length (part_is c.put_u32_le.new.b 4 255)
     ∙ length_part c.put_u32_le.new.b 4 255 (omega (arith, c.put_u32_le.auto.b)) in
-    registered a.tracker.now top a.n c.le-u32.ensures long
+    registered a.tracker.now top a.n c.le_u32-top.ensures long
     c.put_u32_le.new.b c.accept.new.m zero put size
     (c.accept.ensures ∙ ap (λ (m : List ℕ). marks_after m top a.n) (part_is c.put_u32_le.new.b 4 255))
