@@ -1,4 +1,6 @@
 // What to tell the sender. The Rust's `ack_info`.
+#![tactic(auto)]
+
 pub mod ack_block;
 mod runs;
 

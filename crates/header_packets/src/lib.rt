@@ -1,4 +1,6 @@
 // The SSU2 header of a packet: unmasked and read, written and masked, one call each.
+#![tactic(auto)]
+
 mod parts;
 
 ghost use Rattle.std.specs.Prelude.{◌≡◌, length};

@@ -1,4 +1,6 @@
 // Headers as plain numbers, as the C calls pass them: the definitions and their laws. What makes the numbers stands in the crates above.
+#![tactic(auto)]
+
 ghost use Rattle.std.specs.Prelude.{◌≡◌, cond};
 
 // A flag of a header.

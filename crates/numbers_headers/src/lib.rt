@@ -1,4 +1,6 @@
 // A header by numbers.
+#![tactic(auto)]
+
 ghost use Rattle.std.specs.Prelude.{◌≡◌};
 ghost use Rattle.numbers.specs.Headers.{long_numbers, kind_numbers, answer_number, answer_numbers};
 

@@ -1,4 +1,6 @@
 // Pieces of messages of four neighbours, put together: the store of document 01, with the fair slots of request P12.
+#![tactic(auto)]
+
 ghost use Rattle.std.specs.Prelude.{◌≡◌, false, ◌<◌, ◌≤◌, length};
 ghost use Rattle.reassembly.specs.Sizes.{share_size, record_size};
 ghost use Rattle.reassembly.specs.Store.{first, follow};

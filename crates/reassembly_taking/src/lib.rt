@@ -1,4 +1,6 @@
 // A piece of a message taken into its neighbour's share of record and room: kept, or its message finished, or refused.
+#![tactic(auto)]
+
 ghost use Rattle.std.specs.Prelude.{◌≡◌, List, ℕ, ◌+◌, ◌<◌, ◌≤◌, length};
 ghost use Rattle.reassembly.specs.Sizes.{slot_size, share_room, share_size};
 ghost use Rattle.reassembly.specs.Calls.{lent, after, bare, kept_rec, kept_room, finished, put_in, compared, added, opened_in, opened_now, remembered_after, taken_piece, bad_size, off_number, first_taken, follow_on_taken};

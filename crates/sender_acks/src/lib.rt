@@ -1,4 +1,6 @@
 // An Ack block fed to a sender, on a record that the caller lends: one walk up the list beside one up the pairs.
+#![tactic(auto)]
+
 ghost use Rattle.std.specs.Prelude.{◌≡◌, true, ◌+◌, ◌-◌, ◌*◌, ◌<◌, ◌≤◌, length};
 ghost use Rattle.wire.specs.Parts.{part, splice};
 ghost use Rattle.acks.specs.Runs.{whole_pairs, run_sum};
