@@ -15,14 +15,14 @@ returns-then-is_short c =
     let a = c.args in
     let l : Label = record { id = a.id; number = 0; last = false; kind = a.kind; expires = a.expires } in
     let e = first_short a.rec.now a.room.now a.out.now a.neighbour l a.second a.bytes.now c.bare.result (sym c.is_short.ensures ∙ c.if-is_short.true) c.bare.ensures in
-    (e, first_promise a.rec.now a.room.now a.out.now a.neighbour a.id a.kind a.expires a.second a.bytes.now (after c.bare.result (lent a.rec.now a.room.now a.out.now)) (search rules) (search rules) (search rules) e)
+    record { out_after = e; all_agree = first_promise a.rec.now a.room.now a.out.now a.neighbour a.id a.kind a.expires a.second a.bytes.now (after c.bare.result (lent a.rec.now a.room.now a.out.now)) (search rules) (search rules) (search rules) e }
 
 pub returns-then-neighbour-gt3 : goal.returns-then-neighbour-gt3
 returns-then-neighbour-gt3 c =
     let a = c.args in
     let l : Label = record { id = a.id; number = 0; last = false; kind = a.kind; expires = a.expires } in
     let e = first_58 a.rec.now a.room.now a.out.now a.neighbour l a.second a.bytes.now c.bare-then-neighbour-gt3.result (sym c.is_short.ensures ∙ c.if-is_short.false) (omega (arith, c.if-neighbour-gt3.true)) c.bare-then-neighbour-gt3.ensures in
-    (e, first_promise a.rec.now a.room.now a.out.now a.neighbour a.id a.kind a.expires a.second a.bytes.now (after c.bare-then-neighbour-gt3.result (lent a.rec.now a.room.now a.out.now)) (search rules) (search rules) (search rules) e)
+    record { out_after = e; all_agree = first_promise a.rec.now a.room.now a.out.now a.neighbour a.id a.kind a.expires a.second a.bytes.now (after c.bare-then-neighbour-gt3.result (lent a.rec.now a.room.now a.out.now)) (search rules) (search rules) (search rules) e }
 
 pub slice_bounds-take_first-end : goal.slice_bounds-take_first-end
 slice_bounds-take_first-end c =
@@ -45,4 +45,4 @@ returns c =
     let e =
     first_back a.rec.now a.room.now a.out.now a.neighbour (a.neighbour * share_size) (a.neighbour * share_size + share_size) (a.neighbour * share_room) (a.neighbour * share_room + share_room) (sym c.is_short.ensures ∙ c.if-is_short.false) small refl refl refl refl
     c.take_first.result c.take_first.new.rec c.take_first.new.room c.take_first.new.out (search rules) (search rules) l a.second a.bytes.now c.take_first.ensures in
-    (e, first_promise a.rec.now a.room.now a.out.now a.neighbour a.id a.kind a.expires a.second a.bytes.now (after c.take_first.result (lent _ _ c.take_first.new.out)) (search rules) (search rules) (search rules) e)
+    record { out_after = e; all_agree = first_promise a.rec.now a.room.now a.out.now a.neighbour a.id a.kind a.expires a.second a.bytes.now (after c.take_first.result (lent _ _ c.take_first.new.out)) (search rules) (search rules) (search rules) e }

@@ -14,14 +14,14 @@ returns-then-is_short c =
     let a = c.args in
     let l : Label = record { id = a.id; number = a.number; last = a.last; kind = 0; expires = 0 } in
     let e = follow_short a.rec.now a.room.now a.out.now a.neighbour l a.second a.bytes.now c.bare.result (sym c.is_short.ensures ∙ c.if-is_short.true) c.bare.ensures in
-    (e, follow_promise a.rec.now a.room.now a.out.now a.neighbour a.id a.number a.last a.second a.bytes.now (after c.bare.result (lent a.rec.now a.room.now a.out.now)) (search rules) (search rules) e)
+    record { out_after = e; all_agree = follow_promise a.rec.now a.room.now a.out.now a.neighbour a.id a.number a.last a.second a.bytes.now (after c.bare.result (lent a.rec.now a.room.now a.out.now)) (search rules) (search rules) e }
 
 pub returns-then-neighbour-gt3 : goal.returns-then-neighbour-gt3
 returns-then-neighbour-gt3 c =
     let a = c.args in
     let l : Label = record { id = a.id; number = a.number; last = a.last; kind = 0; expires = 0 } in
     let e = follow_58 a.rec.now a.room.now a.out.now a.neighbour l a.second a.bytes.now c.bare-then-neighbour-gt3.result (sym c.is_short.ensures ∙ c.if-is_short.false) (omega (arith, c.if-neighbour-gt3.true)) c.bare-then-neighbour-gt3.ensures in
-    (e, follow_promise a.rec.now a.room.now a.out.now a.neighbour a.id a.number a.last a.second a.bytes.now (after c.bare-then-neighbour-gt3.result (lent a.rec.now a.room.now a.out.now)) (search rules) (search rules) e)
+    record { out_after = e; all_agree = follow_promise a.rec.now a.room.now a.out.now a.neighbour a.id a.number a.last a.second a.bytes.now (after c.bare-then-neighbour-gt3.result (lent a.rec.now a.room.now a.out.now)) (search rules) (search rules) e }
 
 pub slice_bounds-take_follow_on-end : goal.slice_bounds-take_follow_on-end
 slice_bounds-take_follow_on-end c =
@@ -44,4 +44,4 @@ returns c =
     let e =
     follow_back a.rec.now a.room.now a.out.now a.neighbour (a.neighbour * share_size) (a.neighbour * share_size + share_size) (a.neighbour * share_room) (a.neighbour * share_room + share_room) (sym c.is_short.ensures ∙ c.if-is_short.false) small refl refl refl refl
     c.take_follow_on.result c.take_follow_on.new.rec c.take_follow_on.new.room c.take_follow_on.new.out (search rules) (search rules) l a.second a.bytes.now c.take_follow_on.ensures in
-    (e, follow_promise a.rec.now a.room.now a.out.now a.neighbour a.id a.number a.last a.second a.bytes.now (after c.take_follow_on.result (lent _ _ c.take_follow_on.new.out)) (search rules) (search rules) e)
+    record { out_after = e; all_agree = follow_promise a.rec.now a.room.now a.out.now a.neighbour a.id a.number a.last a.second a.bytes.now (after c.take_follow_on.result (lent _ _ c.take_follow_on.new.out)) (search rules) (search rules) e }

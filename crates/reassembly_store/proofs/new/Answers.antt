@@ -15,7 +15,7 @@ returns-then-rec-lt-RECORD_SIZE c =
     let a = c.args in
     let t : ltb (length a.rec.now) record_size ≡ true = lt-ltb (length a.rec.now) record_size (search rules) in
     let e : a.rec.now ≡ renewed a.rec.now = rw t refl in
-    ((rw t refl, e), new_promise a.rec.now a.rec.now e)
+    record { value = (rw t refl, e); new_agrees = new_promise a.rec.now a.rec.now e }
 
 pub returns : goal.returns
 unfolding renewal renewed
@@ -23,4 +23,4 @@ returns c =
     let a = c.args in
     let t : ltb (length a.rec.now) record_size ≡ false = le-ltb (length a.rec.now) record_size (search rules) in
     let e : c.clear.new.b ≡ renewed a.rec.now = rw t c.clear.ensures in
-    ((rw t refl, e), new_promise a.rec.now c.clear.new.b e)
+    record { value = (rw t refl, e); new_agrees = new_promise a.rec.now c.clear.new.b e }

@@ -7,10 +7,10 @@ pub returns-then-rec-lt-RECORD_SIZE : goal.returns-then-rec-lt-RECORD_SIZE
 returns-then-rec-lt-RECORD_SIZE c =
     let a = c.args in
     let e = swept_short a.second a.rec.now (search rules) in
-    ((refl, e), sweep_promise a.second a.rec.now a.rec.now e)
+    record { value = (refl, e); sweep_agrees = sweep_promise a.second a.rec.now a.rec.now e }
 
 pub returns : goal.returns
 returns c =
     let a = c.args in
     let e = swept_long a.second a.rec.now c.sweep_all.new.rec (search rules) c.sweep_all.ensures in
-    ((refl, e), sweep_promise a.second a.rec.now c.sweep_all.new.rec e)
+    record { value = (refl, e); sweep_agrees = sweep_promise a.second a.rec.now c.sweep_all.new.rec e }

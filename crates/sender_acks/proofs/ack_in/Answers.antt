@@ -34,4 +34,4 @@ returns c =
     let o = c.count_of-outstanding in
     let w = c.settle-kept in
     acked a.rec.now a.settled.now a.through a.count a.pairs.now (omega (arith, c.if-rec-lt-SENDER_SIZE)) m.result.within m.ensures.0 (not-false _ c.if-not-m.false) h.result h.ensures
-    o.result w.result w.new.rec w.new.1.1.1.1.1.0 c.put_head.new.rec (omega (arith, c.if-highest-through)) o.ensures.0 o.ensures.1 w.ensures c.put_head.ensures
+    o.result w.result w.new.rec w.new.settled c.put_head.new.rec (omega (arith, c.if-highest-through)) o.ensures.0 o.ensures.1 w.ensures c.put_head.ensures
