@@ -1,4 +1,6 @@
 // What a block of a payload delivers: a message, whole as a part of the payload, or rebuilt as a part of the assembly buffer.
+#![tactic(auto)]
+
 ghost use Rattle.std.specs.Prelude.{◌≡◌, true};
 ghost use Rattle.wire.specs.Parts.{part};
 ghost use Rattle.blocks.specs.Layout.{fits};

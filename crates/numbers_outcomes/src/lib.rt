@@ -1,4 +1,6 @@
 // What the C calls answer: 0 and a number, or a refusal.
+#![tactic(auto)]
+
 ghost use Rattle.std.specs.Prelude.{◌≡◌};
 ghost use Rattle.numbers_outcomes.specs.Outcomes.{write_outcome};
 
