@@ -1,4 +1,6 @@
 // C calls: the keystream, and a packet's header.
+#![tactic(auto)]
+
 pub mod headers; // headers.rt: reading and writing a header
 
 ghost use Rattle.std.specs.Prelude.{◌≡◌};

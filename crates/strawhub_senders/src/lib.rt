@@ -1,4 +1,6 @@
 // C calls: the sender's list, each call a few lines over a proved function. The sender is 4,104 bytes that the caller keeps.
+#![tactic(auto)]
+
 ghost use Rattle.std.specs.Prelude.{◌≡◌, length};
 ghost use Rattle.wire.specs.Parts.{splice};
 ghost use Rattle.sender.specs.Sender.{send, resend, ack};

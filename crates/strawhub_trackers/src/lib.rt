@@ -1,4 +1,6 @@
 // C calls: the tracker, each call a few lines over a proved function. The tracker is 259 bytes that the caller keeps, the highest number in four and 255 marks.
+#![tactic(auto)]
+
 ghost use Rattle.std.specs.Prelude.{◌≡◌, length};
 ghost use Rattle.acks.specs.Recorded.{register_there, record_after, duplicate_there, report_there};
 ghost use Rattle.acks.specs.Expanding.{expand_of, list_after};

@@ -38,7 +38,7 @@ use denote.Triple.Walked.{says, Stays, stay_dropped, gave_slice, walk_of, Goes-d
 use denote.Exit.{yes}
 use Rattle.blocks_listing.specs.declared.Entry.{Entry}
 use Rattle.blocks_listing.specs.declared.Answer.{Answer}
-use Rattle.blocks_listing.specs.Listing.{listing, listing_answer, entries_after}
+use Rattle.blocks_listing.specs.Listing.{listing, listingAnswer, entriesAfter}
 use Rattle.blocks_listing.specs.contracts.Entry as T
 use Rattle.blocks_listing.specs.contracts.Answer as L
 use Rattle.blocks_listing.proofs.Answer.TheLaws as L'
@@ -47,7 +47,7 @@ use Rattle.blocks_listing.proofs.list_blocks.Symbol as list-def
 use Rattle.blocks_listing.proofs.list_blocks.Symbol.{name as #blocks-listing·list-blocks}
 use Rattle.blocks_listing.proofs.list_blocks.Met as list-thm
 use Rattle.numbers_outcomes.specs.declared.Outcome.{Outcome}
-use Rattle.numbers_outcomes.specs.Listings.{list_outcome}
+use Rattle.numbers_outcomes.specs.Listings.{listOutcome}
 use Rattle.numbers_outcomes.specs.contracts.Outcome as S
 use Rattle.numbers_outcomes.proofs.Outcome.TheLaws as S'
 use Rattle.strawhub_blocks.specs.contracts.listings.outcome_of as out
@@ -73,8 +73,8 @@ module _ {M : Type 1} {𝓤 : Ura M} (𝓛 : Logic 𝓤) (mem : Memory → SProp
   abbrev Out : Contract 𝓤
   Out = triple_of 𝓛 out.signature (out.spec 𝓛 mem run)
 
-  out-said : (r : Answer) (d : Outcome) → ent 𝓤 (ensured 𝓛 out.ended (out.clauses 𝓛 mem run) tt (r, tt) tt d) (fact 𝓤 (d ≡ list_outcome r))
-  out-said r d = ex_e 𝓤 _ (λ ws. snd∗ 𝓤 (sem 𝓛 (lasts out.ended tt (r, tt) ws)) (fact 𝓤 (d ≡ list_outcome r)))
+  out-said : (r : Answer) (d : Outcome) → ent 𝓤 (ensured 𝓛 out.ended (out.clauses 𝓛 mem run) tt (r, tt) tt d) (fact 𝓤 (d ≡ listOutcome r))
+  out-said r d = ex_e 𝓤 _ (λ ws. snd∗ 𝓤 (sem 𝓛 (lasts out.ended tt (r, tt) ws)) (fact 𝓤 (d ≡ listOutcome r)))
 
 module _ {M : Type 1} {𝓤 : Ura M} (𝓛 : Logic 𝓤) (mem : Memory → SProp 𝓤) (run : Routine → Fun 𝓤) (κ κ' : Lft) (q q' : Share) (p : MutBor (List ℕ)) (b o : ℕ) (γ : GName) (ys : List Entry) where
   open 𝓛 use {H, A}
@@ -103,9 +103,9 @@ module _ {M : Type 1} {𝓤 : Ura M} (𝓛 : Logic 𝓤) (mem : Memory → SProp
 
   -- what `list_blocks` says
   abbrev Said : Answer → List Entry → Type 0
-  Said r zs = (r ≡ listing_answer (listing (length ys) p.now)) × (zs ≡ entries_after (listing (length ys) p.now) ys)
+  Said r zs = (r ≡ listingAnswer (listing (length ys) p.now)) × (zs ≡ entriesAfter (listing (length ys) p.now) ys)
 
-  exits : (d : Outcome) (w : Val) (zs : List Entry) → (d ≡ list_outcome (listing_answer (listing (length ys) p.now))) × (zs ≡ entries_after (listing (length ys) p.now) ys) → length zs ≡ length ys
+  exits : (d : Outcome) (w : Val) (zs : List Entry) → (d ≡ listOutcome (listingAnswer (listing (length ys) p.now))) × (zs ≡ entriesAfter (listing (length ys) p.now) ys) → length zs ≡ length ys
       → ent 𝓤 (sep 𝓤 (sep 𝓤 (A.lft κ q) (sep 𝓤 (A.lft κ' q') (sem 𝓛 ftrue))) (sep 𝓤 (sem 𝓛 (finally R γ zs)) (sem 𝓛 ((S.the_row).own_val d (w ∷ []))))) (Post w)
   exits d w zs e l =
       qed 𝓛 ((‵ (flft κ q) ⊛ ‵ (flft κ' q') ⊛ ‵ ftrue) ∷ ‵ (finally R γ zs) ∷ ‵ ((S.the_row).own_val d (w ∷ [])) ∷ []) ∵
@@ -147,13 +147,13 @@ module _ {M : Type 1} {𝓤 : Ura M} (𝓛 : Logic 𝓤) (mem : Memory → SProp
         use1 𝓛 (raw ((Out 𝓛 mem run).pre (to_out r u))) (goes-out r u) $
         calls_at ! fm (Out 𝓛 mem run) known_out (to_out r u) (and_then ! (load ! (from ! (stop !)) (look ! 9 refl)) (no_more !)) (λ w.
         use1 𝓛 (later (some (λ (d : Outcome). (‵ ftrue ⊛ ‵ ((S.the_row).own_val d (w ∷ []))) ⊛ raw (ensured 𝓛 out.ended (out.clauses 𝓛 mem run) tt (r, tt) tt d)))) (id⊢ 𝓤 _) $ await ! tt $ pick ! (λ d.
-        split ! $ move ! (1 ∷ []) $ use1 𝓛 (raw (fact 𝓤 (d ≡ list_outcome r))) (out-said 𝓛 mem run r d) $ heard ! (d ≡ list_outcome r) (λ e₂. split ! $ move ! (1 ∷ []) $
+        split ! $ move ! (1 ∷ []) $ use1 𝓛 (raw (fact 𝓤 (d ≡ listOutcome r))) (out-said 𝓛 mem run r d) $ heard ! (d ≡ listOutcome r) (λ e₂. split ! $ move ! (1 ∷ []) $
         -- [the outcome; true; the tokens; the last list; true; true; _5; …]
         peeks ! S.the_row (Is S.the_row) (shows 𝓛 S.the_row) d (w ∷ []) (λ is₂.
         land ! (from ! (stop !)) (init ! 16 refl ((LL.lawful S.the_type S'.the_laws 𝓛).typed d _ is₂).0) $
         returns ! (look ! 16 refl) $ forget ! 6 refl $ forget ! 8 refl $ forget ! 10 refl $ forget ! 12 refl $ forget ! 14 refl $ forget ! 16 refl $
         move ! (16 ∷ 17 ∷ []) $ free1 ! $ move ! (14 ∷ 15 ∷ []) $ free1 ! $ move ! (12 ∷ 13 ∷ []) $ free1 ! $ move ! (10 ∷ 11 ∷ []) $ free1 ! $ move ! (8 ∷ 9 ∷ []) $ free1 ! $ move ! (6 ∷ 7 ∷ []) $ free1 ! $ free0 ! $
-        keep ! (2 ∷ 3 ∷ 0 ∷ []) $ by ! (exits d w zs.1.0 (e₂ ∙ ap list_outcome e.0, e.1) l)))))))))))))))))
+        keep ! (2 ∷ 3 ∷ 0 ∷ []) $ by ! (exits d w zs.1.0 (e₂ ∙ ap listOutcome e.0, e.1) l)))))))))))))))))
 
 module _ {M : Type 1} {𝓤 : Ura M} (𝓛 : Logic 𝓤) (mem : Memory → SProp 𝓤) (run : Routine → Fun 𝓤) (𝓣 : Tables 𝓤 𝓛.H) (known-list : Triple 𝓤 (𝓣.C #blocks-listing·list-blocks) (Lists 𝓛 mem run)) (known_out : Triple 𝓤 (𝓣.C #strawhub-blocks·listings·outcome-of) (Out 𝓛 mem run)) where
   open 𝓛 use {H}
