@@ -11,7 +11,7 @@ use acks::{TRACKER_SIZE, Tracker};
 use std::io;
 
 // Whether a line's answers came, and the tracker after it.
-#[derive(Drop)]
+#[derive(Clone, Copy)]
 struct Turn {
     ok: bool,
     tracker: Tracker,

@@ -158,7 +158,7 @@ fn digit(b: u8) -> u8
 }
 
 // What a field was read as: how many bytes or which number; or it is not of its kind.
-#[derive(Drop)]
+#[derive(Clone, Copy)]
 pub enum Got {
     Of(u64),
     Bad,
