@@ -52,7 +52,7 @@ fn room_of(bytes: usize) -> usize
     if bytes < 2048 { bytes / 4 } else { 512 }
 }
 
-#[derive(Drop)]
+#[derive(Clone, Copy)]
 struct Filled {
     number: u32,
     count: usize,

@@ -1,15 +1,17 @@
 // Replays calls of the tracker and expansions; tests/acks_list.py says how the list was made and what its lines are.
+#![tactic(auto)]
+
 mod asked;
 mod expanded;
 mod fields;
 
-ghost use Rattle.std.specs.Prelude.{◌≤◌};
+ghost use Rattle.std.specs.Prelude.{◌≤◌, IfOk};
 
 use acks::{TRACKER_SIZE, Tracker};
-use libc::{STDIN_FILENO, STDOUT_FILENO};
+use std::io;
 
 // Whether a line's answers came, and the tracker after it.
-#[derive(Drop)]
+#[derive(Clone, Copy)]
 struct Turn {
     ok: bool,
     tracker: Tracker,
@@ -71,25 +73,23 @@ fn line(text: &[u8], at: usize, t: Tracker, bytes: &mut [u8; TRACKER_SIZE]) -> T
     }
 }
 
-fn differs(number: u64) {
-    io::write_all(STDOUT_FILENO, b"differs: line ");
-    io::print_decimal(STDOUT_FILENO, number);
-    io::write_all(STDOUT_FILENO, b"\n");
+fn differs(out: &impl Print, number: u64) -> io::Result<()> {
+    println!(out; "differs: line {number}")
 }
 
 // 1 where a line's answers came, else 0 and a line that says so.
-fn counted(ok: bool, number: u64) -> u64
-    ensures { result ≤ 1 }
+fn counted(out: &impl Print, ok: bool, number: u64) -> io::Result<u64>
+    ensures { IfOk result (λ n. n ≤ 1) }
 {
     if ok {
-        return 1;
+        return Ok(1);
     }
-    differs(number);
-    0
+    differs(out, number)?;
+    Ok(0)
 }
 
 // Runs each line, and prints how many agree.
-fn run(text: &[u8]) {
+fn run(out: &impl Print, text: &[u8]) -> io::Result<()> {
     let mut at = 0;
     let mut all: u64 = 0;
     let mut same: u64 = 0;
@@ -100,17 +100,14 @@ fn run(text: &[u8]) {
         let next = turn.tracker;
         tracker = next;
         all += 1;
-        same += counted(turn.ok, all);
+        same += counted(out, turn.ok, all)?;
         at = lines::after_line(text, at);
     }
-    io::print_decimal(STDOUT_FILENO, all);
-    io::write_all(STDOUT_FILENO, b" lines, ");
-    io::print_decimal(STDOUT_FILENO, same);
-    io::write_all(STDOUT_FILENO, b" agree\n");
+    println!(out; "{all} lines, {same} agree")
 }
 
-fn main() {
-    let mut text = io::large_buffer();
-    let n = io::read_full(STDIN_FILENO, &mut text);
-    run(&text[..n]);
+fn main(rt: HostRuntime) -> io::Result<()> {
+    let mut text = [0u8; 65536];
+    let n = lines::read_full(&mut rt.reader(), &mut text)?;
+    run(&rt, &text[..n])
 }

@@ -1,9 +1,12 @@
 // Replays a list of payloads: a line is a payload in hex and how many records its list holds. Prints counts by type and by refusal.
+#![tactic(auto)]
+
 ghost use Rattle.std.specs.Prelude.{◌≡◌, ◌≤◌, length};
 
 use blocks::{Extent, Part, Written};
-use libc::{STDIN_FILENO, STDOUT_FILENO};
 use lines::Got;
+use std::io;
+use std::io::Read;
 use std::num::wrapping_add_u64;
 
 // Where the tally holds what: counts and sizes of each type, counts and places of each refusal, blocks written again.
@@ -27,12 +30,12 @@ const DIFFERS: usize = 2;
 
 const PAYLOADS: usize = 3;
 
-fn say(text: &[u8]) {
-    io::write_all(STDOUT_FILENO, text);
+fn say(out: &impl Print, text: &[u8]) -> io::Result<()> {
+    out.write_all(text)
 }
 
-fn number(n: u64) {
-    io::print_decimal(STDOUT_FILENO, n);
+fn number(out: &impl Print, n: u64) -> io::Result<()> {
+    out.print(n)
 }
 
 fn wide(x: u8) -> usize {
@@ -146,95 +149,117 @@ fn or_none(got: Got) -> u64 {
     n
 }
 
-fn line(text: &[u8], tally: &mut [u64]) {
+fn line(out: &impl Print, text: &[u8], tally: &mut [u64]) -> io::Result<()> {
     let mut bytes = [0u8; 1500];
     let n = or_none(lines::bytes(lines::field(text, 0), &mut bytes));
     let capacity = or_none(lines::number(lines::field(text, lines::after(text, 0))));
     if n <= 1500 {
         payload(shown(&bytes, 0, n as usize), capacity as usize, tally);
-    } else {
-        say(b"not a payload\n");
+        return Ok(());
     }
+    say(out, b"not a payload\n")
 }
 
 // Takes one byte more of a line, of which n are there; at its end the line is run.
-fn take(b: u8, text: &mut [u8], n: usize, tally: &mut [u64]) -> usize {
+fn take(
+    out: &impl Print,
+    b: u8,
+    text: &mut [u8],
+    n: usize,
+    tally: &mut [u64],
+) -> io::Result<usize> {
     if b == NEWLINE {
-        line(shown(text, 0, n), tally);
-        return 0;
+        line(out, shown(text, 0, n), tally)?;
+        return Ok(0);
     }
     if n < text.len() {
         text[n] = b;
-        return n + 1;
+        return Ok(n + 1);
     }
-    n
+    Ok(n)
 }
 
-fn take_all(chunk: &[u8], text: &mut [u8], have: usize, tally: &mut [u64]) -> usize {
+fn take_all(
+    out: &impl Print,
+    chunk: &[u8],
+    text: &mut [u8],
+    have: usize,
+    tally: &mut [u64],
+) -> io::Result<usize> {
     let mut n = have;
     let mut i = 0;
     while i < chunk.len() {
-        n = take(chunk[i], text, n, tally);
+        n = take(out, chunk[i], text, n, tally)?;
         i += 1;
     }
-    n
+    Ok(n)
 }
 
 // Reads the list, a piece at a time; 64 pieces are four megabytes.
-fn read(chunk: &mut [u8], text: &mut [u8], tally: &mut [u64]) {
+fn read(
+    from: &mut impl Read,
+    out: &impl Print,
+    chunk: &mut [u8],
+    text: &mut [u8],
+    tally: &mut [u64],
+) -> io::Result<()> {
     let mut n = 0;
     for _ in 0..PIECES {
-        let got = io::read_full(STDIN_FILENO, chunk);
-        n = take_all(shown(chunk, 0, got), text, n, tally);
+        let got = lines::read_full(from, chunk)?;
+        n = take_all(out, shown(chunk, 0, got), text, n, tally)?;
     }
+    Ok(())
 }
 
-fn type_line(tally: &[u64], kind: usize) {
+fn type_line(out: &impl Print, tally: &[u64], kind: usize) -> io::Result<()> {
     let n = at(tally, 0, kind);
     if n != 0 {
-        say(b"type ");
-        number(kind as u64);
-        say(b": ");
-        number(n);
-        say(b", sizes ");
-        number(at(tally, SIZES, kind));
-        say(b"\n");
+        say(out, b"type ")?;
+        number(out, kind as u64)?;
+        say(out, b": ")?;
+        number(out, n)?;
+        say(out, b", sizes ")?;
+        number(out, at(tally, SIZES, kind))?;
+        say(out, b"\n")?;
     }
+    Ok(())
 }
 
-fn refusal_line(tally: &[u64], n: usize) {
-    say(b"refused ");
-    number(n as u64);
-    say(b": ");
-    number(at(tally, REFUSALS, n));
-    say(b", places ");
-    number(at(tally, PLACES, n));
-    say(b"\n");
+fn refusal_line(out: &impl Print, tally: &[u64], n: usize) -> io::Result<()> {
+    say(out, b"refused ")?;
+    number(out, n as u64)?;
+    say(out, b": ")?;
+    number(out, at(tally, REFUSALS, n))?;
+    say(out, b", places ")?;
+    number(out, at(tally, PLACES, n))?;
+    say(out, b"\n")
 }
 
-fn types(tally: &[u64]) {
+fn types(out: &impl Print, tally: &[u64]) -> io::Result<()> {
     for kind in 0..256 {
-        type_line(tally, kind);
+        type_line(out, tally, kind)?;
     }
+    Ok(())
 }
 
-fn refusals(tally: &[u64]) {
+fn refusals(out: &impl Print, tally: &[u64]) -> io::Result<()> {
     for n in 1..11 {
-        refusal_line(tally, n);
+        refusal_line(out, tally, n)?;
     }
+    Ok(())
 }
 
-fn totals(tally: &[u64]) {
-    say(b"written again: ");
-    number(at(tally, OTHERS, AGAIN));
-    say(b", with another size: ");
-    number(at(tally, OTHERS, OTHERWISE));
-    say(b"\n");
+fn totals(out: &impl Print, tally: &[u64]) -> io::Result<()> {
+    say(out, b"written again: ")?;
+    number(out, at(tally, OTHERS, AGAIN))?;
+    say(out, b", with another size: ")?;
+    number(out, at(tally, OTHERS, OTHERWISE))?;
+    say(out, b"\n")?;
     if at(tally, OTHERS, DIFFERS) != 0 {
-        say(b"some that were read could not be written\n");
+        say(out, b"some that were read could not be written\n")?;
     }
-    number(at(tally, OTHERS, PAYLOADS));
-    say(b" payloads\n");
+    number(out, at(tally, OTHERS, PAYLOADS))?;
+    say(out, b" payloads\n")
 }
 
 fn tally_room() -> [u64; 640]
@@ -243,12 +268,12 @@ fn tally_room() -> [u64; 640]
     [0; 640]
 }
 
-fn main() {
-    let mut chunk = io::large_buffer();
-    let mut text = io::buffer();
+fn main(rt: HostRuntime) -> io::Result<()> {
+    let mut chunk = [0u8; 65536];
+    let mut text = [0u8; 4096];
     let mut tally = tally_room();
-    read(&mut chunk, &mut text, &mut tally);
-    types(&tally);
-    refusals(&tally);
-    totals(&tally);
+    read(&mut rt.reader(), &rt, &mut chunk, &mut text, &mut tally)?;
+    types(&rt, &tally)?;
+    refusals(&rt, &tally)?;
+    totals(&rt, &tally)
 }

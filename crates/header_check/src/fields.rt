@@ -5,7 +5,7 @@ use header::{Fields, HeaderKind, Long};
 use lines::Got;
 
 // A packet with its keys, and the numbers that the line gives for its fields; 2 ^ 64 - 1 where there is none.
-#[derive(Drop)]
+#[derive(Clone, Copy)]
 pub(crate) struct Packet {
     pub(crate) ok: bool,
     pub(crate) k1: [u8; 32],

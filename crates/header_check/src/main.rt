@@ -1,10 +1,13 @@
 // Replays packets of a live router: each is read, compared, written again and compared; then damaged copies of it, each of which must be refused.
+#![tactic(auto)]
+
 mod damage;
 mod fields;
 mod first;
 
 use header::Answer;
-use libc::{STDIN_FILENO, STDOUT_FILENO};
+use std::io;
+use std::io::Read;
 use std::num::wrapping_add_u64;
 
 // Whether reading leaves the line's plain header, and writing the fields again the packet.
@@ -35,7 +38,7 @@ fn reads_and_writes(p: fields::Packet, plain: &[u8]) -> u64 {
 }
 
 // What the lines gave: how many there are, how many agree, and how many damaged copies were refused by each number.
-#[derive(Drop)]
+#[derive(Clone, Copy)]
 struct Counts {
     all: u64,
     agree: u64,
@@ -63,10 +66,9 @@ fn run_line(text: &[u8], at: usize, c: Counts) -> Counts {
     d
 }
 
-fn print(label: &[u8], n: u64) {
-    io::write_all(STDOUT_FILENO, label);
-    io::print_decimal(STDOUT_FILENO, n);
-    io::write_all(STDOUT_FILENO, b"\n");
+fn print(out: &impl Print, label: &[u8], n: u64) -> io::Result<()> {
+    out.write_all(label)?;
+    out.println(n)
 }
 
 // Each line of a text.
@@ -82,7 +84,7 @@ fn run(text: &[u8], before: Counts) -> Counts {
 }
 
 // The whole list, a buffer of lines at a time; 64 buffers are more than it has.
-fn run_all() -> Counts {
+fn run_all(from: &mut impl Read) -> io::Result<Counts> {
     let mut c = Counts {
         all: 0,
         agree: 0,
@@ -92,28 +94,29 @@ fn run_all() -> Counts {
         key: 0,
         number: 0,
     };
-    let mut buf = io::large_buffer();
-    let mut have = lines::refill(STDIN_FILENO, &mut buf, 0, 0);
+    let mut buf = [0u8; 65536];
+    let mut have = lines::refill(from, &mut buf, 0, 0)?;
     for _ in 0..64u32 {
         let end = lines::whole(&buf[0..have]);
         let next = run(&buf[0..end], c);
         c = next;
-        have = lines::refill(STDIN_FILENO, &mut buf, end, have);
+        have = lines::refill(from, &mut buf, end, have)?;
     }
-    c
+    Ok(c)
 }
 
-fn main() {
-    let c = run_all();
-    print(b"packets ", c.all);
-    print(b"read, and written again as they came ", c.agree);
-    print(b"damaged and refused with 20 ", c.short);
-    print(b"damaged and refused with 21 ", c.kind);
-    print(b"damaged and refused with 22 ", c.version);
-    print(b"damaged and refused with 23 ", c.key);
-    print(b"damaged and refused with 24 ", c.number);
+fn main(rt: HostRuntime) -> io::Result<()> {
+    let c = run_all(&mut rt.reader())?;
+    print(&rt, b"packets ", c.all)?;
+    print(&rt, b"read, and written again as they came ", c.agree)?;
+    print(&rt, b"damaged and refused with 20 ", c.short)?;
+    print(&rt, b"damaged and refused with 21 ", c.kind)?;
+    print(&rt, b"damaged and refused with 22 ", c.version)?;
+    print(&rt, b"damaged and refused with 23 ", c.key)?;
+    print(&rt, b"damaged and refused with 24 ", c.number)?;
     print(
+        &rt,
         b"writing refused as it should be, of 9: ",
         damage::written(),
-    );
+    )
 }

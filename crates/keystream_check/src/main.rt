@@ -1,12 +1,14 @@
 // Replays RFC 8439's vectors: a line is a name, a key, a counter, a nonce, a text and what it becomes under the keystream.
-ghost use Rattle.std.specs.Prelude.{◌<◌, ◌≤◌, length};
+#![tactic(auto)]
 
-use libc::{STDIN_FILENO, STDOUT_FILENO};
+ghost use Rattle.std.specs.Prelude.{◌<◌, ◌≤◌, length, IfOk};
+
 use lines::Got;
+use std::io;
 use std::num::wrapping_add_u32;
 
 // A line's fields, read; ok is false where one of them is not what it should be.
-#[derive(Drop)]
+#[derive(Clone, Copy)]
 struct Vector {
     ok: bool,
     key: [u8; 32],
@@ -109,48 +111,45 @@ fn block_agrees(text: &[u8], at: usize, v: Vector) -> bool {
 }
 
 // Prints what came of the line at a place; 1 where it agrees, else 0.
-fn run_line(text: &[u8], at: usize) -> u64
-    ensures { result ≤ 1 }
+fn run_line(out: &impl Print, text: &[u8], at: usize) -> io::Result<u64>
+    ensures { IfOk result (λ n. n ≤ 1) }
 {
     let name = lines::field(text, at);
     let key_at = lines::after(text, at);
     let v = vector_at(text, key_at);
     let text_at = lines::after(text, lines::after(text, lines::after(text, key_at)));
-    io::write_all(STDOUT_FILENO, name);
+    out.write_all(name)?;
     if !v.ok {
-        io::write_all(STDOUT_FILENO, b": not a vector\n");
-        return 0;
+        out.write_all(b": not a vector\n")?;
+        return Ok(0);
     }
     if !agrees(text, text_at, v) {
-        io::write_all(STDOUT_FILENO, b": differs\n");
-        return 0;
+        out.write_all(b": differs\n")?;
+        return Ok(0);
     }
     if block_agrees(text, lines::after(text, text_at), v) {
-        io::write_all(STDOUT_FILENO, b": same, as a block too\n");
-        return 1;
+        out.write_all(b": same, as a block too\n")?;
+        return Ok(1);
     }
-    io::write_all(STDOUT_FILENO, b": same\n");
-    1
+    out.write_all(b": same\n")?;
+    Ok(1)
 }
 
 // Runs each line, and prints how many agree.
-fn run(text: &[u8]) {
+fn run(out: &impl Print, text: &[u8]) -> io::Result<()> {
     let mut at = 0;
     let mut all: u64 = 0;
     let mut same: u64 = 0;
     while at < text.len() {
-        same += run_line(text, at);
+        same += run_line(out, text, at)?;
         all += 1;
         at = lines::after_line(text, at);
     }
-    io::print_decimal(STDOUT_FILENO, all);
-    io::write_all(STDOUT_FILENO, b" vectors, ");
-    io::print_decimal(STDOUT_FILENO, same);
-    io::write_all(STDOUT_FILENO, b" agree\n");
+    println!(out; "{all} vectors, {same} agree")
 }
 
-fn main() {
+fn main(rt: HostRuntime) -> io::Result<()> {
     let mut text = [0u8; 8192];
-    let n = io::read_full(STDIN_FILENO, &mut text);
-    run(&text[..n]);
+    let n = lines::read_full(&mut rt.reader(), &mut text)?;
+    run(&rt, &text[..n])
 }

@@ -4,3 +4,4 @@ pub mod Filling
 pub mod Hex
 pub mod Decimal
 pub mod Moving
+pub mod Reading

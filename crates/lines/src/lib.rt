@@ -1,8 +1,14 @@
 // The lists that the check programs replay: a case a line, its fields parted by one space, bytes as hex digits.
-ghost use Rattle.std.specs.Prelude.{◌≡◌, true, ◌+◌, ◌-◌, ◌≤◌, length, drop};
+#![tactic(auto)]
+
+ghost use Rattle.std.specs.Prelude.{◌≡◌, true, ◌+◌, ◌-◌, ◌<◌, ◌≤◌, length, take, drop, IfOk};
+ghost use Rattle.std.specs.Io.KnownBytes.{Consumes, IsAtEnd};
 ghost use Rattle.wire.specs.Parts.{part, splice};
 ghost use Rattle.lines.specs.Fields.{is_end, lead, field_at, past, whole_up_to, unread, kept_bytes};
 ghost use Rattle.lines.specs.Digits.{digit_of, pair_of, pairs_of, all_bytes, bytes_in, with_bytes, decimal_of};
+
+use std::io;
+use std::io::Read;
 
 const SPACE: u8 = 32;
 
@@ -101,15 +107,35 @@ fn shift(buf: &mut [u8], from: usize, n: usize)
     }
 }
 
-// What was not used of a buffer's first bytes moved to its front, and more read after it; how many bytes there are now.
-pub fn refill(fd: i32, buf: &mut [u8], used: usize, have: usize) -> usize
-    ensures buf_after { part buf.new 0 (unread used have (length buf.old)) ≡ kept_bytes buf.old used have }
-    ensures lower_bound { (unread used have (length buf.old) ≤ result) × (result ≤ length buf.new) }
+// Reads until a buffer is full or the input ends; how many bytes stand at its front now.
+pub fn read_full<R: Read>(from: &mut R, buf: &mut [u8]) -> io::Result<usize>
+    ensures count { IfOk result (λ n. n ≤ length buf.new) }
+    ensures bytes { IfOk result (λ n. Consumes (R.remaining from.old) (R.remaining from.new) (take n buf.new)) }
+    ensures end { IfOk result (λ n. n < length buf.new → IsAtEnd (R.remaining from.new)) }
+{
+    let mut done = 0;
+    while done < buf.len() {
+        let n = from.read(&mut buf[done..])?;
+        if n == 0 {
+            return Ok(done);
+        }
+        done += n;
+    }
+    Ok(done)
+}
+
+// What was not used of a buffer's first bytes moved to its front, and more read after it; how many bytes there are now. It is moved too where a read fails.
+pub fn refill<R: Read>(from: &mut R, buf: &mut [u8], used: usize, have: usize) -> io::Result<usize>
+    ensures kept { part buf.new 0 (unread used have (length buf.old)) ≡ kept_bytes buf.old used have }
+    ensures count { IfOk result (λ n. (unread used have (length buf.old) ≤ n) × (n ≤ length buf.new)) }
+    ensures bytes { IfOk result (λ n. Consumes (R.remaining from.old) (R.remaining from.new)
+        (take (n - unread used have (length buf.old)) (drop (unread used have (length buf.old)) buf.new))) }
+    ensures end { IfOk result (λ n. n < length buf.new → IsAtEnd (R.remaining from.new)) }
 {
     let left = between(used, have, buf.len());
     shift(buf, used, left);
-    let got = io::read_full(fd, &mut buf[left..]);
-    left + got
+    let got = read_full(from, &mut buf[left..])?;
+    Ok(left + got)
 }
 
 // The value of a hex digit; 16 where a byte is none.
@@ -132,7 +158,7 @@ fn digit(b: u8) -> u8
 }
 
 // What a field was read as: how many bytes or which number; or it is not of its kind.
-#[derive(Drop)]
+#[derive(Clone, Copy)]
 pub enum Got {
     Of(u64),
     Bad,

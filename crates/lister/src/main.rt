@@ -1,67 +1,68 @@
 // Lists the blocks of a payload: raw bytes from standard input, a line for each block.
+#![tactic(auto)]
+
 use blocks_listing::Entry;
-use libc::{STDIN_FILENO, STDOUT_FILENO};
+use std::io;
 
 const LONGEST: usize = 1500;
 
-fn say(text: &[u8]) {
-    io::write_all(STDOUT_FILENO, text);
+fn say(out: &impl Print, text: &[u8]) -> io::Result<()> {
+    out.write_all(text)
 }
 
-fn number(n: u64) {
-    io::print_decimal(STDOUT_FILENO, n);
+fn number(out: &impl Print, n: u64) -> io::Result<()> {
+    out.print(n)
 }
 
 // place, type, size
-fn line(e: Entry) {
-    number(e.place as u64);
-    say(b" ");
-    number(e.kind as u64);
-    say(b" ");
-    number(e.size as u64);
-    say(b"\n");
+fn line(out: &impl Print, e: Entry) -> io::Result<()> {
+    number(out, e.place as u64)?;
+    say(out, b" ")?;
+    number(out, e.kind as u64)?;
+    say(out, b" ")?;
+    number(out, e.size as u64)?;
+    say(out, b"\n")
 }
 
-fn refused(m: u32, place: usize) {
-    say(b"refused ");
-    number(m as u64);
-    say(b" at ");
-    number(place as u64);
-    say(b"\n");
+fn refused(out: &impl Print, m: u32, place: usize) -> io::Result<()> {
+    say(out, b"refused ")?;
+    number(out, m as u64)?;
+    say(out, b" at ")?;
+    number(out, place as u64)?;
+    say(out, b"\n")
 }
 
 // A line for each of the blocks that were counted, then their count.
-fn listed(payload: &[u8], count: usize) {
+fn listed(out: &impl Print, payload: &[u8], count: usize) -> io::Result<()> {
     let mut at = 0;
     let mut i = 0;
     while i < count {
         let s = blocks_listing::step_at(payload, at);
-        line(s.entry);
+        line(out, s.entry)?;
         at = s.next;
         i += 1;
     }
-    say(b"blocks ");
-    number(count as u64);
-    say(b"\n");
+    say(out, b"blocks ")?;
+    number(out, count as u64)?;
+    say(out, b"\n")
 }
 
 // A list as long as the payload holds every block, so it is never too short.
-fn list(payload: &[u8]) {
+fn list(out: &impl Print, payload: &[u8]) -> io::Result<()> {
     let answer = blocks_listing::count_blocks(payload, payload.len());
     if answer.number == 0 {
-        listed(payload, answer.count);
+        listed(out, payload, answer.count)
     } else {
-        refused(answer.number, answer.place);
+        refused(out, answer.number, answer.place)
     }
 }
 
-fn main() {
-    let mut bytes = io::buffer();
-    let n = io::read_full(STDIN_FILENO, &mut bytes);
-    say(b"at type size\n");
+fn main(rt: HostRuntime) -> io::Result<()> {
+    let mut bytes = [0u8; 4096];
+    let n = lines::read_full(&mut rt.reader(), &mut bytes)?;
+    say(&rt, b"at type size\n")?;
     if LONGEST < n {
-        say(b"too long\n");
-        return;
+        return say(&rt, b"too long\n");
     }
-    list(&bytes[..n]);
+    list(&rt, &bytes[..n])
 }

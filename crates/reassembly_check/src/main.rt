@@ -1,15 +1,17 @@
 // Replays sequences of calls on one store, and compares each answer and the assembly buffer with the list's. tests/reassembly_lists.py writes the list.
-ghost use Rattle.std.specs.Prelude.{◌≤◌, ◌<◌, length};
+#![tactic(auto)]
 
-use libc::{STDIN_FILENO, STDOUT_FILENO};
+ghost use Rattle.std.specs.Prelude.{◌≤◌, ◌<◌, length, IfOk};
+
 use lines::Got;
 use reassembly::{RECORD_SIZE, ROOM_SIZE, Reply};
+use std::io;
 
 // What the assembly buffer holds before a call.
 const MARK: u8 = 165;
 
 // A line's fields.
-#[derive(Drop)]
+#[derive(Clone, Copy)]
 struct Line {
     call: u64,
     neighbour: u64,
@@ -203,43 +205,47 @@ fn replay(rec: &mut [u8], room: &mut [u8], out: &mut [u8], piece: &mut [u8], l: 
 
 // 1 where the line at a place agrees, else 0.
 fn run_line(
+    to: &impl Print,
     text: &[u8],
     at: usize,
     rec: &mut [u8],
     room: &mut [u8],
     out: &mut [u8],
     piece: &mut [u8],
-) -> u64
+) -> io::Result<u64>
     requires { (65536 ≤ length out.old) × (2048 ≤ length piece.old) }
-    ensures { result ≤ 1 }
+    ensures { IfOk result (λ n. n ≤ 1) }
 {
     let l = line_at(text, at);
     let n = l.len;
     let m = l.room;
     if replay(rec, room, &mut out[..m], &mut piece[..n], l) {
-        return 1;
+        return Ok(1);
     }
-    io::print_decimal(STDOUT_FILENO, at as u64);
-    io::write_all(STDOUT_FILENO, b": differs\n");
-    0
+    println!(to; "{at}: differs")?;
+    Ok(0)
 }
 
 // Runs each line, and prints how many agree.
-fn run(text: &[u8], rec: &mut [u8], room: &mut [u8], out: &mut [u8], piece: &mut [u8])
+fn run(
+    to: &impl Print,
+    text: &[u8],
+    rec: &mut [u8],
+    room: &mut [u8],
+    out: &mut [u8],
+    piece: &mut [u8],
+) -> io::Result<()>
     requires { (65536 ≤ length out.old) × (2048 ≤ length piece.old) }
 {
     let mut at = 0;
     let mut all: u64 = 0;
     let mut same: u64 = 0;
     while at < text.len() {
-        same += run_line(text, at, rec, room, out, piece);
+        same += run_line(to, text, at, rec, room, out, piece)?;
         all += 1;
         at = lines::after_line(text, at);
     }
-    io::print_decimal(STDOUT_FILENO, all);
-    io::write_all(STDOUT_FILENO, b" calls, ");
-    io::print_decimal(STDOUT_FILENO, same);
-    io::write_all(STDOUT_FILENO, b" agree\n");
+    println!(to; "{all} calls, {same} agree")
 }
 
 // Room for the pieces of 16 messages, 4 of each neighbour.
@@ -247,12 +253,12 @@ fn blank() -> [u8; ROOM_SIZE] {
     [0u8; ROOM_SIZE]
 }
 
-fn main() {
+fn main(rt: HostRuntime) -> io::Result<()> {
     let mut text = [0u8; 131072];
-    let n = io::read_full(STDIN_FILENO, &mut text);
+    let n = lines::read_full(&mut rt.reader(), &mut text)?;
     let mut rec = [0u8; RECORD_SIZE];
     let mut room = blank();
     let mut out = [0u8; 65536];
     let mut piece = [0u8; 2048];
-    run(&text[..n], &mut rec, &mut room, &mut out, &mut piece);
+    run(&rt, &text[..n], &mut rec, &mut room, &mut out, &mut piece)
 }

@@ -1,10 +1,12 @@
 // Replays calls of the sender on one record, and compares each answer and the list after it; tests/sender_list.py says how the list was made and what its lines are.
+#![tactic(auto)]
+
 mod fields;
 
-ghost use Rattle.std.specs.Prelude.{◌≤◌, ◌<◌};
+ghost use Rattle.std.specs.Prelude.{◌≤◌, ◌<◌, IfOk};
 
-use libc::{STDIN_FILENO, STDOUT_FILENO};
 use sender::{Acked, Given, MOST_OUTSTANDING, SENDER_SIZE};
+use std::io;
 
 // The bytes of 256 packets in a line.
 const PACKETS: usize = 4096;
@@ -167,25 +169,23 @@ fn line(text: &[u8], at: usize, rec: &mut [u8; SENDER_SIZE]) -> bool {
     false
 }
 
-fn differs(number: u64) {
-    io::write_all(STDOUT_FILENO, b"differs: line ");
-    io::print_decimal(STDOUT_FILENO, number);
-    io::write_all(STDOUT_FILENO, b"\n");
+fn differs(out: &impl Print, number: u64) -> io::Result<()> {
+    println!(out; "differs: line {number}")
 }
 
 // 1 where a line agrees, else 0 and a line that says so.
-fn counted(ok: bool, number: u64) -> u64
-    ensures { result ≤ 1 }
+fn counted(out: &impl Print, ok: bool, number: u64) -> io::Result<u64>
+    ensures { IfOk result (λ n. n ≤ 1) }
 {
     if ok {
-        return 1;
+        return Ok(1);
     }
-    differs(number);
-    0
+    differs(out, number)?;
+    Ok(0)
 }
 
 // Runs each line, and prints how many agree.
-fn run(text: &[u8]) {
+fn run(out: &impl Print, text: &[u8]) -> io::Result<()> {
     let mut at = 0;
     let mut all: u64 = 0;
     let mut same: u64 = 0;
@@ -193,17 +193,14 @@ fn run(text: &[u8]) {
     while at < text.len() {
         let ok = line(text, at, &mut rec);
         all += 1;
-        same += counted(ok, all);
+        same += counted(out, ok, all)?;
         at = lines::after_line(text, at);
     }
-    io::print_decimal(STDOUT_FILENO, all);
-    io::write_all(STDOUT_FILENO, b" lines, ");
-    io::print_decimal(STDOUT_FILENO, same);
-    io::write_all(STDOUT_FILENO, b" agree\n");
+    println!(out; "{all} lines, {same} agree")
 }
 
-fn main() {
+fn main(rt: HostRuntime) -> io::Result<()> {
     let mut text = [0u8; 131072];
-    let n = io::read_full(STDIN_FILENO, &mut text);
-    run(&text[..n]);
+    let n = lines::read_full(&mut rt.reader(), &mut text)?;
+    run(&rt, &text[..n])
 }
