@@ -4,18 +4,12 @@
 # make second: the library beside an independent program of the rules; WORDS=-l for the long round.
 .PHONY: list test oracle bench calls fuzz rust second
 
-# rt waits for the slowest of each batch: batches of three keep two cores busy. Large pages take some 8 percent off a proof.
-export RT_JOBS ?= 3
-export GLIBC_TUNABLES ?= glibc.malloc.hugetlb=1
-
 # a sample unless FILE names a payload
 FILE = crates/lister/stdin
 
 list:
 	@test -r "$(FILE)" || { echo "list: $(FILE) cannot be read"; exit 1; }
 	@echo "list: proving and building the lister (a minute or two from nothing)"
-	@mkdir -p target
-	@rt check lister >target/list.log 2>&1 || { cat target/list.log; exit 1; }
 	@tools/run lister <"$(FILE)"
 
 test:

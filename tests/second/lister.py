@@ -7,6 +7,7 @@ from blocks_model import listing
 from calls import ROOT
 
 MOST = 1500
+PROGRAM = ROOT / "crates/lister/out/lister"
 
 
 def lines(payload):
@@ -20,7 +21,7 @@ def lines(payload):
 
 def printed(parts):
     """What the program prints of bytes that come in parts; a status below 0 is a signal."""
-    program = subprocess.Popen([ROOT / "tools/run", "lister"], stdin=subprocess.PIPE, stdout=subprocess.PIPE, stderr=subprocess.PIPE)
+    program = subprocess.Popen([PROGRAM], stdin=subprocess.PIPE, stdout=subprocess.PIPE, stderr=subprocess.PIPE)
     try:
         for part in parts[:-1]:
             program.stdin.write(part)
@@ -62,8 +63,8 @@ def some(rng, count):
 
 
 def run(calls, judge, rng, whole):
-    if not (ROOT / "target/bin/lister").exists():
-        raise SystemExit("second program: target/bin/lister is missing; `rt check lister` makes it")
+    if not PROGRAM.exists():
+        raise SystemExit(f"second program: {PROGRAM.relative_to(ROOT)} is missing; `tools/run lister` makes it")
     sample = bytes.fromhex("00 0004 6553F100 15 0001 01 FE 0002 0000")
     judge.compare(printed([sample])[0], "at type size\n0 0 4\n7 21 1\n11 254 2\nblocks 3\n", True, "lister", sample)
     for parts in (*at_limits(rng), *refusals(rng), *some(rng, 300 if whole else 8)):
