@@ -41,8 +41,7 @@ loop-i-preserved c =
     }
 
 pub returns : goal.returns
-returns c =
-    (
-      c.count_blocks-answer.ensures,
-      sym (none_left c.args.payload.now c.loop-i.list c.loop-i.i c.count_blocks-answer.result.count c.loop-i.at c.loop-i-test.false) ∙ c.loop-i.invariant.comes,
-    )
+returns c = (
+  c.count_blocks-answer.ensures,
+  sym (none_left c.args.payload.now c.loop-i.list c.loop-i.i c.count_blocks-answer.result.count c.loop-i.at c.loop-i-test.false) ∙ c.loop-i.invariant.comes,
+)

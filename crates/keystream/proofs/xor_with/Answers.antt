@@ -1,4 +1,4 @@
-use Rattle.std.proofs.Common.{◌≡◌, ℕ, ◌-◌, length, take, sym, refl, ap, ◌∙◌, add-one, arith, length-set}
+use Rattle.std.proofs.Common.{◌≡◌, ℕ, length, take, sym, refl, ap, ◌∙◌, add-one, arith, length-set}
 use Rattle.keystream.specs.Mask.{xor_with}
 use Rattle.keystream.proofs.Masks.{xor_none, xor_more, xor_enough}
 use Rattle.keystream.proofs.xor_with.Goals as goal

@@ -1,4 +1,4 @@
-use Rattle.std.proofs.Common.{◌≡◌, ◌-◌, length, refl, arith, rules}
+use Rattle.std.proofs.Common.{◌≡◌, length, refl, arith, rules}
 use Rattle.keystream.specs.Chacha.{add32}
 use Rattle.keystream.proofs.State.{finish_none, finish_more, finish_all}
 use Rattle.keystream.proofs.rounds.finish.Goals as goal

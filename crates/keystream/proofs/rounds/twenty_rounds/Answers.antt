@@ -1,4 +1,4 @@
-use Rattle.std.proofs.Common.{◌≡◌, ◌-◌, refl, ap, ◌∙◌, add-one, arith}
+use Rattle.std.proofs.Common.{◌≡◌, refl, ap, ◌∙◌, add-one, arith}
 use Rattle.keystream.specs.Chacha.{double_round, rounds}
 use Rattle.keystream.proofs.rounds.twenty_rounds.Goals as goal
 
