@@ -71,10 +71,10 @@ module _ (ps l0 : List ℕ) (place top : ℕ) (big : place + length (left ps 0 (
     pub room_left_lem : at + get_or ps (i + 1) 0 ≤ length l
     room_left_lem = omega (arith, length_all, s.counted, s.same)
 
-    pub wrote-step :
+    pub wrote_step :
         Wrote ps l0 place top (splice l at (falling (above - get_or ps i 0 - 1) (get_or ps (i + 1) 0)))
         (at + get_or ps (i + 1) 0) (above - get_or ps i 0 - get_or ps (i + 1) 0) (i + 2)
-    wrote-step =
+    wrote_step =
         record {
           w = s.w ++ f;
           all = s.all ∙ ap (λ x. s.w ++ x) next ∙ sym (append_assoc s.w f (left ps (i + 2) (above - a - b - 1)));

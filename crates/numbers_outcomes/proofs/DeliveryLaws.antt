@@ -32,9 +32,9 @@ module _ (told : List ℕ) where
   told_refused n p kept done = (rw (ne_eqb n 0 kept, ne_eqb n 60 done) refl, rw (ne_eqb n 0 kept, ne_eqb n 60 done) refl)
 
   -- a rebuilt message
-  pub told-finished :
+  pub told_finished :
       (kind id expires start length : ℕ)
       → (delivery_outcome (record { number = 60; from = 2; kind = kind; id = id; expires = expires; start = start; length = length }) ≡ outcome 60 0)
       × (delivery_numbers (record { number = 60; from = 2; kind = kind; id = id; expires = expires; start = start; length = length }) told ≡ 2 ∷ kind ∷ id ∷ expires ∷ start ∷ length ∷ [])
   unfolding delivery_outcome delivery_numbers
-  told-finished kind id expires start length = (refl, refl)
+  told_finished kind id expires start length = (refl, refl)

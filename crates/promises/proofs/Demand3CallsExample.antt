@@ -159,13 +159,13 @@ module _ (outs₁ outs₂ : ℕ → List ℕ) (long₁ : LongEnough outs₁) (lo
     example_two_calls = from_new 2 (omega arith) outs₂ long₂ rec room made new twos twos_within twos_come (widths_of twos twos_come refl refl) twos_keep_new all refl
 
     -- what they hear, computed
-    pub example-heard :
+    pub example_heard :
         (heard 1 rec room all
         ≡ kept (outs₁ 0) ∷ kept (outs₁ 1) ∷ refused 54 (outs₁ 2) ∷ whole 20 900 (1 ∷ 2 ∷ 3 ∷ 4 ∷ 5 ∷ []) (outs₁ 3) ∷ kept [] ∷ refused 57 (outs₁ 5) ∷ [])
         × (heard 2 rec room all
         ≡ kept (outs₂ 0) ∷ kept (outs₂ 1) ∷ refused 54 (outs₂ 2) ∷ whole 1 901 (6 ∷ 7 ∷ []) (outs₂ 3) ∷ kept [] ∷ refused 57 (outs₂ 5) ∷ whole 2 902 (8 ∷ 9 ∷ []) (outs₂ 6) ∷ [])
     unfolding heard_due reply_for laid_out bare due_one cut_from untouched tallied note marked begun done is_open remembers remember is_due forget
-    example-heard = (
+    example_heard = (
       example_one_calls.hears ∙ ap (λ (fs : Memory). all_heard_due outs₁ 0 ones_come (due most_remembered ones (start ones fs) ones_come)) (store_starts.begins rec room made new 1 (omega arith)).1,
       example_two_calls.hears ∙ ap (λ (fs : Memory). all_heard_due outs₂ 0 twos_come (due most_remembered twos (start twos fs) twos_come)) (store_starts.begins rec room made new 2 (omega arith)).1,
     )

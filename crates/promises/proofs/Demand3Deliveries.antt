@@ -29,7 +29,7 @@ use Rattle.messages.proofs.OfStore.{received_kept, received_refused, received_wh
 use Rattle.messages.proofs.Pieces.{piece_in, received_is}
 use Rattle.numbers_outcomes.specs.declared.Outcome.{Outcome}
 use Rattle.numbers_outcomes.specs.Deliveries.{delivery_outcome, delivery_numbers}
-use Rattle.numbers_outcomes.proofs.DeliveryLaws.{told_kept, told_refused, told-finished}
+use Rattle.numbers_outcomes.proofs.DeliveryLaws.{told_kept, told_refused, told_finished}
 use Rattle.promises.specs.Demand3.{Cut, piece_of, cut_from, no_cut, Event, deliver, sweep_at, Tally, no_tally, done, marked, Past, note, due_one, due, act, said, store_after, Fulfilled}
 use Rattle.promises.specs.Demand3Calls.{second_of, start_at, LongEnough}
 use Rattle.promises.specs.Demand3Deliveries.{HasPiece, Loan, Tells, hand_call, meets, last_rec, last_room, handing_one, handings, HandedOne, Handed, outcome_due, told_of, told_due, tells_due, all_due, Demand3Deliveries, WrittenIsHanded}
@@ -84,7 +84,7 @@ calm_tells at id told d late =
 calm_tells at id told d repeated =
     by_numbers told (received_refused at id 54 (λ e. omega arith)) (told_refused told 54 at (λ e. omega arith) (λ e. omega arith))
 calm_tells at id told d kept = by_numbers told (received_kept at id) (told_kept told)
-calm_tells at id told d (finished w) = by_numbers told (received_whole at id 60 w) (told-finished told w.kind id w.expires 0 (length w.bytes))
+calm_tells at id told d (finished w) = by_numbers told (received_whole at id 60 w) (told_finished told w.kind id w.expires 0 (length w.bytes))
 
 -- ---- a schedule on a share
 

@@ -87,12 +87,12 @@ module _ (space : List ℕ) (wide : 1512 ≤ length space) where
       example_deliveries = from_new n one loans long rec room made new three_cuts within_limits mixture (widths_of three_cuts mixture refl refl) all_sent keeps_rules turns (own_handings n loans 0 mixture)
 
       -- what is told at the repeat, at the sixth call, which finishes the first message, and at the last late repeat
-      pub example-told :
+      pub example_told :
           (get_or (tellings n rec room turns) 3 (told_of_lem []) ≡ record { outcome = outcome 54 3; out = outs 3; told = numbers 3 })
           × (get_or (tellings n rec room turns) 5 (told_of_lem []) ≡ record { outcome = outcome 60 0; out = splice (outs 5) 0 (1 ∷ 2 ∷ 3 ∷ 4 ∷ 5 ∷ []); told = 2 ∷ 20 ∷ 7 ∷ 900 ∷ 0 ∷ 5 ∷ [] })
           × (get_or (tellings n rec room turns) 13 (told_of_lem []) ≡ record { outcome = outcome 57 3; out = outs 13; told = numbers 13 })
       unfolding tells_due outcome_due told_due told_of laid_out due_one cut_from untouched tallied note marked begun done is_open
-      example-told =
+      example_told =
           let t : tellings n rec room turns ≡ all_due three_cuts loans 0 mixture (due most_remembered three_cuts (start three_cuts []) mixture) =
           example_deliveries.tells ∙ ap (λ (fs : Memory). all_due three_cuts loans 0 mixture (due most_remembered three_cuts (start three_cuts fs) mixture)) (store_starts.begins rec room made new n one).1 in (
             ap (λ (l : List Tells). get_or l 3 (told_of_lem [])) t,
@@ -185,13 +185,13 @@ module _ (space : List ℕ) (roomy : 1512 ≤ length space) (rec room : List ℕ
         twos_keep_new all refl
 
     -- what is told of the message 7 of each, and at the late repeats
-    pub example-told-two :
+    pub example_told_two :
         (get_or (tellings 1 rec room all) 3 (told_of_lem []) ≡ record { outcome = outcome 60 0; out = splice (outs₁ 3) 0 (1 ∷ 2 ∷ 3 ∷ 4 ∷ 5 ∷ []); told = 2 ∷ 20 ∷ 7 ∷ 900 ∷ 0 ∷ 5 ∷ [] })
         × (get_or (tellings 2 rec room all) 3 (told_of_lem []) ≡ record { outcome = outcome 60 0; out = splice (outs₂ 3) 0 (6 ∷ 7 ∷ []); told = 2 ∷ 1 ∷ 7 ∷ 901 ∷ 0 ∷ 2 ∷ [] })
         × (get_or (tellings 1 rec room all) 5 (told_of_lem []) ≡ record { outcome = outcome 57 0; out = outs₁ 5; told = numbers₁ 5 })
         × (get_or (tellings 2 rec room all) 5 (told_of_lem []) ≡ record { outcome = outcome 57 0; out = outs₂ 5; told = numbers₂ 5 })
     unfolding tells_due outcome_due told_due told_of laid_out due_one cut_from untouched tallied note marked begun done is_open
-    example-told-two =
+    example_told_two =
         let t : tellings 1 rec room all ≡ all_due ones l₁ 0 ones_come (due most_remembered ones (start ones []) ones_come) =
         example_one.tells ∙ ap (λ (fs : Memory). all_due ones l₁ 0 ones_come (due most_remembered ones (start ones fs) ones_come)) (store_starts.begins rec room made new 1 (omega arith)).1 in
         let u : tellings 2 rec room all ≡ all_due twos l₂ 0 twos_come (due most_remembered twos (start twos []) twos_come) =

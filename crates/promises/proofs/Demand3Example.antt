@@ -67,13 +67,13 @@ pub example_again : Fulfilled 4 most_remembered message_size three_cuts (remembe
 example_again = demand3_for 4 most_remembered message_size (omega arith) three_cuts within_limits (remembering left_behind) refl (sweep_at 300 ∷ mixture) keeps_rules_again
 
 -- and what the store says of it, and remembers, computed
-pub example-said :
+pub example_said :
     (said most_remembered message_size three_cuts new_store mixture
     ≡ says 0 ∷ says 0 ∷ says 0 ∷ says 54 ∷ says 0 ∷ brings 20 900 (1 ∷ 2 ∷ 3 ∷ 4 ∷ 5 ∷ []) ∷ says 57
     ∷ says 0 ∷ brings 1 901 (6 ∷ 7 ∷ []) ∷ says 0 ∷ says 0 ∷ says 57 ∷ brings 2 902 (8 ∷ 9 ∷ []) ∷ says 57 ∷ [])
     × (store_after most_remembered message_size three_cuts new_store mixture ≡ remembering left_behind)
 unfolding act said_of step remembers remember is_due forget slots_step answer slots_refuse slot_of find_id find_free message_or plus bad_length bad_number repeats clashes too_much complete rebuilt_of too_short id_of number_of final_of piece_bytes slots_sweep swept_one same
-example-said = (refl, refl)
+example_said = (refl, refl)
 
 -- ---- 4 slots, 2 remembered
 
@@ -109,14 +109,14 @@ five_keep_rules = schedule_of 4 2 five_cuts pushing_out (start five_cuts finishe
 pub example_two : Fulfilled 4 2 message_size five_cuts (remembering finished_before) pushing_out
 example_two = demand3_for 4 2 message_size (omega arith) five_cuts five_within (remembering finished_before) refl pushing_out five_keep_rules
 
-pub example-two-said :
+pub example_two_said :
     (said 2 message_size five_cuts (remembering finished_before) pushing_out
     ≡ says 0 ∷ says 54 ∷ brings 20 900 (1 ∷ 2 ∷ 3 ∷ []) ∷ says 57 ∷ says 0 ∷ says 57 ∷ brings 1 901 (4 ∷ 5 ∷ [])
     ∷ says 0 ∷ brings 2 902 (6 ∷ 7 ∷ []) ∷ says 0 ∷ says 57 ∷ says 0 ∷ says 57
     ∷ says 0 ∷ brings 3 903 (8 ∷ 9 ∷ []) ∷ brings 4 904 (10 ∷ 11 ∷ []) ∷ says 57 ∷ [])
     × (store_after 2 message_size five_cuts (remembering finished_before) pushing_out ≡ remembering (record { id = 7; second = 124 } ∷ record { id = 9; second = 125 } ∷ []))
 unfolding act said_of step remembers remember is_due forget slots_step answer slots_refuse slot_of find_id find_free message_or plus bad_length bad_number repeats clashes too_much complete rebuilt_of too_short id_of number_of final_of piece_bytes slots_sweep swept_one same
-example-two-said = (refl, refl)
+example_two_said = (refl, refl)
 
 -- ---- 4 slots, 16 remembered, 17 messages and two more
 
@@ -162,7 +162,7 @@ one_id =
     ∷ record { id = 7; kind = 1; expires = 900; pieces = (3 ∷ []) ∷ (4 ∷ []) ∷ [] }
     ∷ []
 
-pub premises-needed :
+pub premises_needed :
     -- two open messages with one id: the second's first piece is 55, where 0 is due
     (said most_remembered message_size one_id new_store (deliver 0 0 100 ∷ deliver 1 0 101 ∷ []) ≡ says 0 ∷ says 55 ∷ [])
     -- an id is used anew while it is remembered: 57, where 0 is due
@@ -172,4 +172,4 @@ pub premises-needed :
     -- one more open than there are slots: 52, where 0 is due
     × (said most_remembered message_size many_cuts (record { slots = replicate 2 none; remembered = [] }) (deliver 0 0 0 ∷ deliver 1 0 0 ∷ deliver 2 0 0 ∷ []) ≡ says 0 ∷ says 0 ∷ says 52 ∷ [])
 unfolding act said_of step remembers remember is_due forget slots_step answer slots_refuse slot_of find_id find_free message_or plus bad_length bad_number repeats clashes too_much complete rebuilt_of too_short id_of number_of final_of piece_bytes slots_sweep swept_one same
-premises-needed = (refl, refl, refl, refl)
+premises_needed = (refl, refl, refl, refl)

@@ -99,7 +99,7 @@ pub example_two : FulfilledFor 2 twos before all twos_come
 example_two = demand3 message_size (omega arith) 2 (omega arith) twos twos_within before twos_begin twos_come twos_keep_rules all twos_sent
 
 -- and what all hear, computed
-pub example-heard :
+pub example_heard :
     (heard 1 all (acts_said before all) ≡ says 0 ∷ says 0 ∷ says 54 ∷ brings 20 900 (1 ∷ 2 ∷ 3 ∷ 4 ∷ 5 ∷ []) ∷ says 0 ∷ says 57 ∷ [])
     × (heard 2 all (acts_said before all) ≡ says 0 ∷ says 0 ∷ says 54 ∷ brings 1 901 (6 ∷ 7 ∷ []) ∷ says 0 ∷ says 57 ∷ brings 2 902 (8 ∷ 9 ∷ []) ∷ [])
     -- who floods meets 52, of others' ids too, until the sweep
@@ -107,4 +107,4 @@ pub example-heard :
     × (heard 9 all (acts_said before all) ≡ says 58 ∷ says 0 ∷ [])
     × ((acts_left before all).summary ≡ 1 ∷ 0 ∷ 0 ∷ 0 ∷ [])
 unfolding act_answer act_said step_from answer_from recounted is_open_in sweep_all step remembers remember is_due forget slots_step answer slots_refuse slot_of find_id find_free message_or plus bad_length bad_number repeats clashes too_much complete rebuilt_of too_short id_of number_of final_of piece_bytes slots_sweep swept_one same
-example-heard = (refl, refl, refl, refl, refl)
+example_heard = (refl, refl, refl, refl, refl)

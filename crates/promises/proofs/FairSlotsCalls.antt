@@ -32,7 +32,7 @@ made_counted rec room h n one =
 pub summary_of_calls : SummaryOfCalls
 summary_of_calls =
     record {
-      from-made = λ rec room h turns w. (turns_keep turns rec room h w, made_counted (last_rec rec room turns) (last_room rec room turns) (turns_keep turns rec room h w));
+      from_made = λ rec room h turns w. (turns_keep turns rec room h w, made_counted (last_rec rec room turns) (last_room rec room turns) (turns_keep turns rec room h w));
       from_new = λ rec room lr lm turns w.
           made_counted (last_rec (renewed rec) room turns) (last_room (renewed rec) room turns) (turns_keep turns (renewed rec) room (new_made rec room lr lm) w);
     }

@@ -56,4 +56,4 @@ module _ (k1 k2 n p out : List ℕ) (fit : NumbersInWidth n) (given : write_answ
       )
 
 pub header_numbers : HeaderNumbers
-header_numbers = record { in_width = passes; read-written = writes; written_read = reads }
+header_numbers = record { in_width = passes; read_written = writes; written_read = reads }

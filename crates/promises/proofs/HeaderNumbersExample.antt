@@ -102,4 +102,4 @@ module _ (k1 k2 out : List ℕ) where
   pub again : (write_answer (lent_numbers k1 k2 packet out) (packet_after_read k1 k2 packet) ≡ 0) × (write_packet k1 k2 (lent_numbers k1 k2 packet out) (packet_after_read k1 k2 packet) ≡ packet)
   again =
       let need : need_of (packet_kind (packet_after_read k1 k2 packet)) ≤ length packet = rw (read.2, packet_length) head_need in
-      header_numbers.read-written k1 k2 packet out packet_bytes_lem read.0 (subst UnnamedBitsZero (sym read.2) no_others) need
+      header_numbers.read_written k1 k2 packet out packet_bytes_lem read.0 (subst UnnamedBitsZero (sym read.2) no_others) need

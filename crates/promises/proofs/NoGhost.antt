@@ -38,8 +38,8 @@ always_apart slots keep hk cs = go cs (record { slots = replicate slots none; re
 pub no_ghost_calls : NoGhostCalls
 no_ghost_calls =
     record {
-      first_piece = λ n one x h l second v r.
+      first_piece_lem = λ n one x h l second v r.
           first_stays x n h.record_long h.room_long (omega arith) l second v (bare (cond (bad_size (length v)) 50 57)) (first_57 (lent_to x n) h.share_made l second v r);
-      follow-on-piece = λ n one x h l second v r.
+      follow_on_piece = λ n one x h l second v r.
           follow_stays x n h.record_long h.room_long (omega arith) l second v (bare (cond (bad_size (length v)) 50 (cond (off_number l.number) 51 57))) (follow_57 (lent_to x n) h.share_made l second v r);
     }

@@ -16,7 +16,7 @@ Counted rec room = (n : ℕ) → n < 4 → (summary_at rec n ≡ open_of (slots_
 
 -- So it is after any calls: from every record and room that calls made, and from strawhub_store_new on, whatever the record held.
 pub record SummaryOfCalls : Type 0 where
-  pub from-made :
+  pub from_made :
       (rec room : List ℕ) → AllMade rec room → (turns : List Turn) → AllInWidth turns
       → AllMade (last_rec rec room turns) (last_room rec room turns) × Counted (last_rec rec room turns) (last_room rec room turns)
   pub from_new :

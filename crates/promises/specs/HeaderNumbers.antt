@@ -29,7 +29,7 @@ pub record HeaderNumbers : Type 0 where
   -- each number of a packet that was read fits its parameter of the writing call
   pub in_width : (k1 k2 p out : List ℕ) → Bytes p → read_answer k1 k2 p ≡ 0 → NumbersInWidth (lent_numbers k1 k2 p out)
   -- these numbers, written over the packet that reading left, give 0 and the packet that came, where no unnamed bit is set and writing has its length
-  pub read-written :
+  pub read_written :
       (k1 k2 p out : List ℕ) → Bytes p → read_answer k1 k2 p ≡ 0 → UnnamedBitsZero (packet_after_read k1 k2 p) → need_of (packet_kind (packet_after_read k1 k2 p)) ≤ length p
       → (write_answer (lent_numbers k1 k2 p out) (packet_after_read k1 k2 p) ≡ 0) × (write_packet k1 k2 (lent_numbers k1 k2 p out) (packet_after_read k1 k2 p) ≡ p)
   -- numbers that were written, read again: those that the type has, the others 0, the key's place; and the plain packet

@@ -23,9 +23,9 @@ AlwaysApart = (slots keep : ℕ) → 1 ≤ keep → (cs : List Call) → Apart k
 
 -- The same of the calls, on every record and room of which neighbour n's share is one that calls made: a first piece, and a follow-on piece, of an id that this share remembers.
 pub record NoGhostCalls : Type 0 where
-  pub first_piece :
+  pub first_piece_lem :
       (n : ℕ) → n < 4 → (x : Lent) → OwnMade n x.rec x.room → (l : Label) (second : ℕ) (v : List ℕ) → remembers (memory_of (share_of x.rec n)) l.id ≡ true
       → first_call x n l second v ≡ refuses (cond (bad_size (length v)) 50 57) x
-  pub follow-on-piece :
+  pub follow_on_piece :
       (n : ℕ) → n < 4 → (x : Lent) → OwnMade n x.rec x.room → (l : Label) (second : ℕ) (v : List ℕ) → remembers (memory_of (share_of x.rec n)) l.id ≡ true
       → follow_on_call x n l second v ≡ refuses (cond (bad_size (length v)) 50 (cond (off_number l.number) 51 57)) x

@@ -15,7 +15,7 @@ fair_readings =
       at_12_2 = refl;
       at_12_3 = refl;
       at_12_4 = refl;
-      at-12-6 = refl;
+      at_12_6 = refl;
       at_12_10 = refl;
       at_12_10_left = refl;
     }

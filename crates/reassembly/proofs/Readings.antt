@@ -10,7 +10,7 @@ pub readings : Readings
 unfolding answered step remembers remember is_due forget slots_step answer slots_refuse slot_of find_id find_free message_or plus bad_length bad_number repeats clashes too_much complete rebuilt_of too_short id_of number_of final_of piece_bytes slots_sweep swept_one same
 readings =
     record {
-      at-5-1 = refl;
+      at_5_1 = refl;
       at_5_1_full = refl;
       at_5_2 = refl;
       at_5_3 = refl;

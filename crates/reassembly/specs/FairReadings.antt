@@ -46,7 +46,7 @@ pub record FairReadings : Type 0 where
   -- 12.4: one sweep for all
   pub at_12_4 : (acts_left new_neighbours (first_of 0 1 0 ∷ first_of 3 1 10 ∷ sweeps 30 ∷ [])).summary ≡ 0 ∷ 0 ∷ 0 ∷ 1 ∷ []
   -- 12.6: 57 before 52, which another neighbour does not meet, nor this one once it has 3 open
-  pub at-12-6 :
+  pub at_12_6 :
       answers_to 6 (finish_of 0 9 ++ series (λ id. first_of 0 id 0) 0 4 ++ (first_of 0 9 0 ∷ first_of 0 8 0 ∷ first_of 1 8 0 ∷ last_of 0 0 ∷ first_of 0 8 0 ∷ []))
       ≡ 57 ∷ 52 ∷ 0 ∷ 60 ∷ 0 ∷ []
   -- 12.10: equal ids of two neighbours are two messages; then none is open, and 7 is remembered for both

@@ -37,7 +37,7 @@ largest_second = 18446744073709551615
 -- What they are answered by.
 pub record Readings : Type 0 where
   -- 5.1: 51 and 50 come before 57, and 57 whatever the piece; with 4 open too, where another message is 52
-  pub at-5-1 :
+  pub at_5_1 :
       answers 2 (finish 7 0 ++ (piece message_size (follow 7 0 false (1 ∷ [])) 0 ∷ piece message_size (follow 7 1 true []) 0 ∷ last_piece 7 0 ∷ piece message_size (follow 7 9 false (1 ∷ [])) 0 ∷ []))
       ≡ 51 ∷ 50 ∷ 57 ∷ 57 ∷ []
   pub at_5_1_full : answers 6 (finish 7 0 ++ series (λ id. first_piece id 0) 100 4 ++ (last_piece 7 0 ∷ first_piece 8 0 ∷ [])) ≡ 57 ∷ 52 ∷ []

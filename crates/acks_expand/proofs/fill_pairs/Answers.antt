@@ -2,7 +2,7 @@ use Prim.Native.Nat.{◌≤◌, ◌+◌, ◌-◌}
 use mathlib.Core.Path.{◌≡◌}
 use lib.ListN.{length, get_or}
 use native.Mathlib.Omega.{arith}
-use Rattle.acks.proofs.Filling.{wrote_start, wrote-step, wrote_end, spends, room_left_lem}
+use Rattle.acks.proofs.Filling.{wrote_start, wrote_step, wrote_end, spends, room_left_lem}
 use Rattle.acks_expand.proofs.fill_pairs.Goals as goal
 
 pub loop-i-init : goal.loop-i-init
@@ -83,7 +83,7 @@ loop-i-preserved c =
     let x : c.byte-nack.result ≡ get_or a.pairs.now i.i 0 = c.byte-nack.ensures.0 in
     let y : c.byte-ack.result ≡ get_or a.pairs.now (i.i + 1) 0 = c.byte-ack.ensures.0 in
     rw (c.fall.ensures, x, y)
-    (wrote-step a.pairs.now a.list.now a.place a.top c.requires.1 i.list i.at i.above i.i i.invariant (omega arith))
+    (wrote_step a.pairs.now a.list.now a.place a.top c.requires.1 i.list i.at i.above i.i i.invariant (omega arith))
 
 pub returns : goal.returns
 returns c =
