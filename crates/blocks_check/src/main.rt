@@ -272,7 +272,7 @@ fn main(rt: HostRuntime) -> io::Result<()> {
     let mut chunk = [0u8; 65536];
     let mut text = [0u8; 4096];
     let mut tally = tally_room();
-    read(&mut rt.reader(), &rt, &mut chunk, &mut text, &mut tally)?;
+    read(&mut rt.stdin(), &rt, &mut chunk, &mut text, &mut tally)?;
     types(&rt, &tally)?;
     refusals(&rt, &tally)?;
     totals(&rt, &tally)

@@ -106,7 +106,7 @@ fn run_all(from: &mut impl Read) -> io::Result<Counts> {
 }
 
 fn main(rt: HostRuntime) -> io::Result<()> {
-    let c = run_all(&mut rt.reader())?;
+    let c = run_all(&mut rt.stdin())?;
     print(&rt, b"packets ", c.all)?;
     print(&rt, b"read, and written again as they came ", c.agree)?;
     print(&rt, b"damaged and refused with 20 ", c.short)?;

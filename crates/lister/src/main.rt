@@ -59,7 +59,7 @@ fn list(out: &impl Print, payload: &[u8]) -> io::Result<()> {
 
 fn main(rt: HostRuntime) -> io::Result<()> {
     let mut bytes = [0u8; 4096];
-    let n = lines::read_full(&mut rt.reader(), &mut bytes)?;
+    let n = lines::read_full(&mut rt.stdin(), &mut bytes)?;
     say(&rt, b"at type size\n")?;
     if LONGEST < n {
         return say(&rt, b"too long\n");

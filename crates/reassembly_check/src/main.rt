@@ -255,7 +255,7 @@ fn blank() -> [u8; ROOM_SIZE] {
 
 fn main(rt: HostRuntime) -> io::Result<()> {
     let mut text = [0u8; 131072];
-    let n = lines::read_full(&mut rt.reader(), &mut text)?;
+    let n = lines::read_full(&mut rt.stdin(), &mut text)?;
     let mut rec = [0u8; RECORD_SIZE];
     let mut room = blank();
     let mut out = [0u8; 65536];

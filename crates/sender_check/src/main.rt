@@ -201,6 +201,6 @@ fn run(out: &impl Print, text: &[u8]) -> io::Result<()> {
 
 fn main(rt: HostRuntime) -> io::Result<()> {
     let mut text = [0u8; 131072];
-    let n = lines::read_full(&mut rt.reader(), &mut text)?;
+    let n = lines::read_full(&mut rt.stdin(), &mut text)?;
     run(&rt, &text[..n])
 }
