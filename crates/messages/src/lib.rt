@@ -58,6 +58,7 @@ fn whole_at(kind: u8, id: u32, expires: u32, bytes: Part) -> Received
 }
 
 // What the store's reply to the piece of the block at a place delivers.
+#[tactic(auto, unfolding(crate::specs::Delivery::rebuilt_by))]
 fn rebuilt_by(at: usize, r: Reply, id: u32) -> Received
     ensures { result ≡ rebuilt_by at r id }
 {
