@@ -1,6 +1,6 @@
-use Prim.Native.Nat.{◌≤◌, ◌+◌, ◌-◌}
+use Prim.Native.Nat.{◌+◌}
 use mathlib.Core.Path.{◌≡◌}
-use lib.ListN.{length, get_or}
+use lib.ListN.{get_or}
 use native.Mathlib.Omega.{arith}
 use Rattle.acks.proofs.Filling.{wrote_start, wrote_step, wrote_end, spends, room_left_lem}
 use Rattle.acks_expand.proofs.fill_pairs.Goals as goal
@@ -11,70 +11,23 @@ loop-i-init c =
     wrote_start a.pairs.now a.list.now a.place a.top c.requires.1 c.requires.0
 
 pub overflow_sub-above : goal.overflow_sub-above
-overflow_sub-above c =
-    let spent : c.byte-nack.result + c.byte-ack.result ≤ c.loop-i.above = let a = c.args in
-    let i = c.loop-i in
-    omega (
-      arith,
-      spends a.pairs.now a.list.now a.place a.top c.requires.1 i.list i.at i.above i.i i.invariant (omega arith),
-      c.byte-nack.ensures.0,
-      c.byte-ack.ensures.0,
-    ) in
-    omega (arith, spent)
+overflow_sub-above c = omega (arith, spends _ _ _ _ c.requires.1 _ _ _ _ c.loop-i.invariant (omega arith))
 
 pub fall-requires : goal.fall-requires
-fall-requires c =
-    let spent : c.byte-nack.result + c.byte-ack.result ≤ c.loop-i.above = let a = c.args in
-    let i = c.loop-i in
-    omega (
-      arith,
-      spends a.pairs.now a.list.now a.place a.top c.requires.1 i.list i.at i.above i.i i.invariant (omega arith),
-      c.byte-nack.ensures.0,
-      c.byte-ack.ensures.0,
-    ) in
-    let roomy : c.loop-i.at + c.byte-ack.result ≤ length c.loop-i.list = let a = c.args in
-    let i = c.loop-i in
-    omega (
-      arith,
-      room_left_lem a.pairs.now a.list.now a.place a.top c.requires.1 i.list i.at i.above i.i i.invariant (omega arith),
-      c.byte-ack.ensures.0,
-    ) in
-    (roomy, omega (arith, spent))
+fall-requires c = (
+  omega (arith, room_left_lem _ _ _ _ c.requires.1 _ _ _ _ c.loop-i.invariant (omega arith)),
+  omega (arith, spends _ _ _ _ c.requires.1 _ _ _ _ c.loop-i.invariant (omega arith)),
+)
 
 pub overflow_sub-above-in-loop-i : goal.overflow_sub-above-in-loop-i
-overflow_sub-above-in-loop-i c =
-    let spent : c.byte-nack.result + c.byte-ack.result ≤ c.loop-i.above = let a = c.args in
-    let i = c.loop-i in
-    omega (
-      arith,
-      spends a.pairs.now a.list.now a.place a.top c.requires.1 i.list i.at i.above i.i i.invariant (omega arith),
-      c.byte-nack.ensures.0,
-      c.byte-ack.ensures.0,
-    ) in
-    omega (arith, spent)
+overflow_sub-above-in-loop-i c = omega (arith, spends _ _ _ _ c.requires.1 _ _ _ _ c.loop-i.invariant (omega arith))
 
 pub overflow_sub-above-in-loop-i-2 : goal.overflow_sub-above-in-loop-i-2
-overflow_sub-above-in-loop-i-2 c =
-    let spent : c.byte-nack.result + c.byte-ack.result ≤ c.loop-i.above = let a = c.args in
-    let i = c.loop-i in
-    omega (
-      arith,
-      spends a.pairs.now a.list.now a.place a.top c.requires.1 i.list i.at i.above i.i i.invariant (omega arith),
-      c.byte-nack.ensures.0,
-      c.byte-ack.ensures.0,
-    ) in
-    omega (arith, spent)
+overflow_sub-above-in-loop-i-2 c = omega (arith, spends _ _ _ _ c.requires.1 _ _ _ _ c.loop-i.invariant (omega arith))
 
 pub overflow_add-at : goal.overflow_add-at
 overflow_add-at c =
-    let roomy : c.loop-i.at + c.byte-ack.result ≤ length c.loop-i.list = let a = c.args in
-    let i = c.loop-i in
-    omega (
-      arith,
-      room_left_lem a.pairs.now a.list.now a.place a.top c.requires.1 i.list i.at i.above i.i i.invariant (omega arith),
-      c.byte-ack.ensures.0,
-    ) in
-    omega (arith, roomy, c.loop-i.invariant.same)
+    omega (arith, room_left_lem _ _ _ _ c.requires.1 _ _ _ _ c.loop-i.invariant (omega arith), c.loop-i.invariant.same)
 
 pub loop-i-preserved : goal.loop-i-preserved
 loop-i-preserved c =

@@ -1,4 +1,3 @@
-use Prim.Native.Nat.{◌-◌}
 use native.Mathlib.Omega.{arith}
 use Rattle.acks.proofs.Measuring.{summed_start, summed_step, measured, beyond}
 use Rattle.acks_expand.proofs.measure.Goals as goal

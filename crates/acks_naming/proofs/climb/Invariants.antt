@@ -1,4 +1,4 @@
-use Prim.Native.Nat.{◌≤◌, ◌-◌}
+use Prim.Native.Nat.{◌≤◌}
 use Rattle.acks.specs.Naming.{StandsAt}
 use Rattle.acks_naming.proofs.climb.Given as goal
 

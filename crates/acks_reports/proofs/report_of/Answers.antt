@@ -1,11 +1,17 @@
 use native.Mathlib.Omega.{arith}
 use mathlib.Core.Path.{◌≡◌, sym, ◌∙◌}
-use mathlib.Core.Bool.{true, false}
-use Prim.Native.Nat.{◌≤◌}
+use mathlib.Core.Bool.{Bool, true, false}
+use mathlib.Core.List.{List}
+use Prim.Native.Nat.{ℕ, ◌≤◌}
 use Rattle.acks.specs.Tracking.{mark}
-use Rattle.acks.specs.Reporting.{report_of_runs}
+use Rattle.acks.specs.Runs.{leading}
+use Rattle.acks.specs.Reporting.{view, report_of_runs}
 use Rattle.acks.proofs.Pairs.{quiet, leading_view_le, after_count, reported}
 use Rattle.acks_reports.proofs.report_of.Goals as goal
+
+-- a run among the k numbers below top is no longer than k
+within_k : (b : Bool) (m : List ℕ) (top k count : ℕ) → count ≡ leading b (view m top k) → count ≤ k
+within_k b m top k count e = rw e (leading_view_le b m top k)
 
 pub returns-then-not-marked : goal.returns-then-not-marked
 returns-then-not-marked c =
@@ -15,32 +21,24 @@ returns-then-not-marked c =
 
 pub overflow_sub-top : goal.overflow_sub-top
 overflow_sub-top c =
-    let count-in : c.run-count.result ≤ c.lesser-k.result = let a = c.args in
-    rw c.run-count.ensures (leading_view_le _ a.m.now a.top c.lesser-k.result) in
-    omega (arith, count-in)
+    omega (arith, within_k _ _ _ _ _ c.run-count.ensures)
 
 pub overflow_sub-k : goal.overflow_sub-k
 overflow_sub-k c =
-    let count-in : c.run-count.result ≤ c.lesser-k.result = let a = c.args in
-    rw c.run-count.ensures (leading_view_le _ a.m.now a.top c.lesser-k.result) in
-    omega (arith, count-in)
+    omega (arith, within_k _ _ _ _ _ c.run-count.ensures)
 
 pub pairs-p-requires : goal.pairs-p-requires
 pairs-p-requires c =
-    let count-in : c.run-count.result ≤ c.lesser-k.result = let a = c.args in
-    rw c.run-count.ensures (leading_view_le _ a.m.now a.top c.lesser-k.result) in
     let a = c.args in (
       omega arith,
-      omega (arith, count-in),
-      omega (arith, count-in),
+      omega (arith, within_k _ _ _ _ _ c.run-count.ensures),
+      omega (arith, within_k _ _ _ _ _ c.run-count.ensures),
       after_count a.m.now a.top c.lesser-k.result c.run-count.result c.run-count.ensures,
     )
 
 pub overflow_cast-result : goal.overflow_cast-result
 overflow_cast-result c =
-    let count-in : c.run-count.result ≤ c.lesser-k.result = let a = c.args in
-    rw c.run-count.ensures (leading_view_le _ a.m.now a.top c.lesser-k.result) in
-    omega (arith, count-in)
+    omega (arith, within_k _ _ _ _ _ c.run-count.ensures)
 
 pub returns : goal.returns
 unfolding report_of_runs

@@ -1,4 +1,4 @@
-use Rattle.std.proofs.Common.{ℕ, ◌-◌, ap, ◌∙◌, arith, rules}
+use Rattle.std.proofs.Common.{ℕ, ap, ◌∙◌, arith, rules}
 use Rattle.wire.specs.Series.{series}
 use Rattle.sender.specs.Sender.{place_of}
 use Rattle.sender.specs.Recorded.{packet_at, sender_at}
