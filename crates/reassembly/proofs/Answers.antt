@@ -11,7 +11,7 @@ use Rattle.wire.specs.Parts.{same}
 use Rattle.wire.proofs.Tests.{or_neither}
 use Rattle.reassembly.specs.Sizes.{message_size, share_room}
 use Rattle.reassembly.specs.declared.Head.{Head}
-use Rattle.reassembly.specs.Store.{Piece, first, follow, id_of, number_of, final_of, piece_bytes, is_held, some_held, total, plus, bad_length, bad_number, repeats, clashes, too_much}
+use Rattle.reassembly.specs.Store.{Piece, first, follow, id_of, number_of, final_of, piece_bytes, is_held, some_held, plus, bad_length, bad_number, repeats, clashes, too_much}
 use Rattle.reassembly.specs.Record.{piece_at}
 use Rattle.reassembly.specs.Judge.{pick, same_label, misfits, grown_by}
 use Rattle.reassembly.specs.Calls.{bad_size}

@@ -1,5 +1,4 @@
 use native.Mathlib.Omega.{arith}
-use Prim.Native.Nat.{◌-◌}
 use Rattle.reassembly_memory.proofs.Branches.{sifted_turn, sifted_end}
 use borrow.Author.Rules.{rules}
 use Rattle.reassembly_memory.proofs.forget.Goals as goal

@@ -1,6 +1,5 @@
 use native.Mathlib.Omega.{arith}
 use mathlib.Core.Path.{refl}
-use Prim.Native.Nat.{◌-◌}
 use Rattle.reassembly.specs.Memory.{remembers}
 use Rattle.reassembly_memory.proofs.Branches.{found_turn, found_end}
 use borrow.Author.Rules.{rules}

@@ -3,7 +3,6 @@ use native.Mathlib.Omega.{arith}
 use lib.ListN.{length-set, replicate}
 use lib.Seq.{paste-zero}
 use mathlib.Core.Path.{refl}
-use Prim.Native.Nat.{◌-◌}
 use Rattle.wire.proofs.Zeros.{zero_turn, zero_end}
 use Rattle.reassembly_records.proofs.clear.Goals as goal
 

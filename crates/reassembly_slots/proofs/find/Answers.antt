@@ -1,7 +1,6 @@
 use native.Mathlib.Omega.{arith}
 use mathlib.Core.Bool.{true, false}
 use mathlib.Core.Path.{◌≡◌, sym, ◌∙◌}
-use Prim.Native.Nat.{◌-◌}
 use Rattle.reassembly.specs.Slots.{is_open_as}
 use Rattle.reassembly.proofs.Branches.{open_as}
 use Rattle.reassembly.proofs.Scan.{first_hit, first_miss, first_end}

@@ -1,7 +1,6 @@
 use native.Mathlib.Omega.{arith}
 use mathlib.Core.Bool.{true, false}
 use mathlib.Core.Path.{◌≡◌, sym, ◌∙◌}
-use Prim.Native.Nat.{◌-◌}
 use Rattle.reassembly.specs.Slots.{is_free}
 use Rattle.reassembly.proofs.Branches.{free_as}
 use Rattle.reassembly.proofs.Scan.{first_hit, first_miss, first_end}

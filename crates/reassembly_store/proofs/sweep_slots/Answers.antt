@@ -1,7 +1,6 @@
 use mathlib.Core.Path.{◌≡◌, ap, ◌∙◌}
 use native.Mathlib.Omega.{arith}
 use borrow.Author.Rules.{rules}
-use Prim.Native.Nat.{◌-◌}
 use Rattle.reassembly.specs.Calls.{swept_to}
 use Rattle.reassembly.proofs.Branches.{swept_more}
 use Rattle.reassembly_store.proofs.sweep_slots.Goals as goal

@@ -3,7 +3,7 @@ use native.Mathlib.Omega.{arith}
 use mathlib.Core.List.{List}
 use lib.ListN.{length}
 use mathlib.Core.Path.{◌≡◌, refl, sym, ap, ◌∙◌}
-use Prim.Native.Nat.{ℕ, ◌≤◌, ◌-◌, ◌+◌}
+use Prim.Native.Nat.{ℕ, ◌≤◌, ◌+◌}
 use Rattle.wire.specs.Parts.{splice}
 use Rattle.wire.proofs.Slices.{splice_none}
 use Rattle.reassembly.specs.Joining.{piece_or, joined_below, message_of, outside_or, joins_outside}
