@@ -8,12 +8,11 @@ use lib.ListN.{length, take, replicate, length-map}
 use lib.Seq.{take-append_seam}
 use Rattle.wire.specs.Parts.{splice}
 use Rattle.acks.specs.declared.Tracker.{Tracker}
-use Rattle.acks.specs.declared.AckInfo.{AckInfo}
 use Rattle.acks.specs.Window.{falling, window, keep}
 use Rattle.acks.specs.History.{highest_of, among}
 use Rattle.acks.specs.Tracking.{mark}
 use Rattle.acks.specs.Runs.{runs, flags, named, whole_pairs, run_sum}
-use Rattle.acks.specs.Reporting.{padded, refused_report, silent, report_of_runs, report_of, ack_info, pair_bytes}
+use Rattle.acks.specs.Reporting.{Report, padded, refused_report, silent, report_of_runs, report_of, ack_info, pair_bytes}
 use Rattle.acks.specs.Expanding.{ack_numbers, expand_of, list_after}
 use Rattle.acks.proofs.RunLengths.{flags_runs}
 use Rattle.acks.proofs.Falling.{named_keep, length_falling, map_falling, window_size, length_keep}
@@ -22,7 +21,7 @@ use Rattle.acks.proofs.Answers.{is_0}
 use Rattle.acks.proofs.Tracks.{Tracks, Follows}
 
 -- what holds of a report that is not refused
-pub record Faithful (top : ℕ) (got : ℕ → Bool) (r : AckInfo) : Type 0 where
+pub record Faithful (top : ℕ) (got : ℕ → Bool) (r : Report) : Type 0 where
   pub number_is : r.number ≡ 0
   pub through_is : r.through ≡ top
   pub names_are : ack_numbers r.through r.count (pair_bytes r) ≡ keep got (window top)
@@ -107,11 +106,11 @@ told {l} {t} f given = go (among l (highest_of l)) refl
     go : (b : Bool) → among l (highest_of l) ≡ b → Faithful (highest_of l) (among l) (ack_info t)
     go true e = rw (report_is f.tracks) (faithful (highest_of l) (among l) e)
     go false e =
-        let q : (ack_info t).number ≡ 41 = ap (λ (x : AckInfo). x.number) (report_is f.tracks ∙ unheard (highest_of l) (among l) e) in
+        let q : (ack_info t).number ≡ 41 = ap (λ (x : Report). x.number) (report_is f.tracks ∙ unheard (highest_of l) (among l) e) in
         absurd (omega (arith, q, given))
 
 -- a report, expanded into a list of at least 255 places
-pub expands : (top : ℕ) (got : ℕ → Bool) (r : AckInfo) → Faithful top got r → (list : List ℕ) → 255 ≤ length list →
+pub expands : (top : ℕ) (got : ℕ → Bool) (r : Report) → Faithful top got r → (list : List ℕ) → 255 ≤ length list →
     (expand_of r.through r.count (pair_bytes r) (length list) ≡ record { number = 0; count = length (keep got (window top)) })
     × (list_after r.through r.count (pair_bytes r) list ≡ splice list 0 (keep got (window top)))
 expands top got r f list big =
@@ -143,6 +142,6 @@ at_most_254 top got = go (got top) (runs true (map got (falling (top - 1) (min t
     go true (c ∷ ps) h o = omega arith
 
 -- those that it has are its pair bytes
-pub pairs_cut : (r : AckInfo) → take r.len r.pairs ≡ pair_bytes r
+pub pairs_cut : (r : Report) → take r.len r.pairs ≡ pair_bytes r
 unfolding pair_bytes
 pairs_cut r = refl

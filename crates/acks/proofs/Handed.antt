@@ -1,16 +1,15 @@
 -- A report handed to the block writer. Assumes nothing.
+use Rattle.std.specs.Prelude.{Result}
 use mathlib.Core.Path.{◌≡◌, ◌∙◌}
 use mathlib.Core.List.{List}
 use Prim.Native.Nat.{ℕ}
 use lib.ListN.{length}
 use borrow.Author.Tests.{eq-eqb}
-use Rattle.blocks.specs.declared.Written.{Written}
 use Rattle.blocks.specs.Writing.{writing, room_after}
-use Rattle.acks.specs.Reporting.{pair_bytes}
+use Rattle.acks.specs.Reporting.{Report, pair_bytes}
 use Rattle.acks.specs.AckBlocks.{ack_fields_of, ack_writing, ack_room}
-use Rattle.acks.specs.declared.AckInfo.{AckInfo}
 
-pub handed : (r : AckInfo) (room ps after f : List ℕ) (w : Written) → r.number ≡ 0 → f ≡ ack_fields_of r → ps ≡ pair_bytes r →
+pub handed : (r : Report) (room ps after f : List ℕ) (w : Result ℕ ℕ) → r.number ≡ 0 → f ≡ ack_fields_of r → ps ≡ pair_bytes r →
     w ≡ writing 12 f ps (length room) → after ≡ room_after 12 f ps room → (w ≡ ack_writing r (length room)) × (after ≡ ack_room r room)
 unfolding ack_writing ack_room
 handed r room ps after f w zero fields pairs wrote left = (

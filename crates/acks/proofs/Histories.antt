@@ -6,11 +6,10 @@ use Prim.Native.Nat.{ℕ, ◌≤◌, ◌<◌}
 use lib.ListN.{length, get_or}
 use Rattle.wire.specs.Parts.{splice}
 use Rattle.acks.specs.declared.Tracker.{Tracker}
-use Rattle.acks.specs.declared.AckInfo.{AckInfo}
 use Rattle.acks.specs.Window.{window, in_window, keep}
 use Rattle.acks.specs.History.{answer_to, among, received, highest_seen, newest}
 use Rattle.acks.specs.Tracking.{fresh, is_duplicate, register_of, register_all}
-use Rattle.acks.specs.Reporting.{silent, report_of, ack_info, pair_bytes}
+use Rattle.acks.specs.Reporting.{Report, silent, report_of, ack_info, pair_bytes}
 use Rattle.acks.specs.Expanding.{expand_of, list_after}
 use Rattle.acks.specs.Recorded.{tracker_short, tracker_at, register_there, duplicate_there, report_there}
 use Rattle.acks.proofs.Tracks.{Tracks, follows, answer_is}
@@ -55,7 +54,7 @@ module _ (calls : List ℕ) where
   report_after_lem some = faithful (highest_seen calls) (among (received calls)) (highest_among (received calls) some)
 
   -- which, expanded into a list of at least 255 places, names the received numbers of the window
-  pub names_newest : (r : AckInfo) → Faithful (highest_seen calls) (among (received calls)) r → (list : List ℕ) → 255 ≤ length list
+  pub names_newest : (r : Report) → Faithful (highest_seen calls) (among (received calls)) r → (list : List ℕ) → 255 ≤ length list
       → (expand_of r.through r.count (pair_bytes r) (length list) ≡ record { number = 0; count = length (newest calls) })
       × (list_after r.through r.count (pair_bytes r) list ≡ splice list 0 (newest calls))
   unfolding newest

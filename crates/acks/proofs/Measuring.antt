@@ -1,6 +1,6 @@
 -- Measuring an acknowledgement: what the pairs before a place came to. Assumes nothing.
-use mathlib.Core.Path.{◌≡◌, refl, sym, ap, ◌∙◌}
-use mathlib.Core.Bool.{true, false, not, false≢true}
+use mathlib.Core.Path.{◌≡◌, refl, ap, ◌∙◌}
+use mathlib.Core.Bool.{true, false}
 use mathlib.Core.List.{List, ◌∷◌}
 use Prim.Native.Nat.{ℕ, ◌+◌, ◌-◌, ◌≤◌, ◌<◌}
 use native.Mathlib.Omega.{arith}
@@ -61,13 +61,15 @@ summed_end through count ps sum names i s h =
 -- what measuring answers: the numbers stay at 0 or above, or they go below
 module _ (through count : ℕ) (ps : List ℕ) (sum names i : ℕ) (s : Summed through count ps sum names i) where
   pub measured : length ps ≤ i + 1 → sum ≤ through →
-      (true ≡ not (goes_below through count ps))
-      × (true ≡ true → (names ≡ length (ack_numbers through count ps)) × (through - sum + (count + run_sum (whole_pairs ps)) ≡ through))
+      (names ≡ length (ack_numbers through count ps)) × (through - sum + (count + run_sum (whole_pairs ps)) ≡ through)
   measured h g =
       let e = summed_end through count ps sum names i s h in
-      (ap not (sym (above_44 through count ps (omega arith))), λ q. (e.1, omega arith))
+      (e.1, omega arith)
 
-  pub beyond : (n low : ℕ) → through < sum →
-      (false ≡ not (goes_below through count ps))
-      × (false ≡ true → (n ≡ length (ack_numbers through count ps)) × (low + (count + run_sum (whole_pairs ps)) ≡ through))
-  beyond n low g = (ap not (sym (below_44 through count ps (omega (arith, s.sums)))), λ q. absurd (false≢true q))
+  pub within : length ps ≤ i + 1 → sum ≤ through → goes_below through count ps ≡ false
+  within h g =
+      let e = summed_end through count ps sum names i s h in
+      above_44 through count ps (omega arith)
+
+  pub beyond : through < sum → goes_below through count ps ≡ true
+  beyond g = below_44 through count ps (omega (arith, s.sums))

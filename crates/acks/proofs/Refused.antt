@@ -1,4 +1,5 @@
 -- A refusal leaves the record, the room or the list that was lent as it was, and its number is one of 01's for the call. Assumes nothing.
+use Rattle.std.specs.Prelude.{Err}
 use mathlib.Core.Path.{◌≡◌, refl, sym, ap, ◌∙◌, subst}
 use mathlib.Core.Logic.{inl, inr}
 use mathlib.Core.Bool.{Bool, true, false, cond}
@@ -11,16 +12,14 @@ use borrow.Author.Tests.{ltb-true, ltb-false, eqb-true, eqb-false, ne_eqb}
 use types.Run.{OneOf}
 use Rattle.wire.specs.Numbers.{Bytes, little_at}
 use Rattle.wire.proofs.Numbers.{little_at_lt}
-use Rattle.blocks.specs.declared.Written.TheVariants as Wrote
 use Rattle.blocks.specs.Layout.{fits}
 use Rattle.blocks.specs.Table.{widths}
 use Rattle.blocks.specs.Writing.{writing, room_after}
 use Rattle.blocks.proofs.Refused as Blocks
 use Rattle.acks.specs.declared.Tracker.{Tracker}
-use Rattle.acks.specs.declared.AckInfo.{AckInfo}
 use Rattle.acks.specs.History.{answer_to}
 use Rattle.acks.specs.Tracking.{mark, is_duplicate, register_answer, register_of}
-use Rattle.acks.specs.Reporting.{refused_report, silent, pair_bytes, report_of, ack_info}
+use Rattle.acks.specs.Reporting.{Report, refused_report, silent, pair_bytes, report_of, ack_info}
 use Rattle.acks.specs.Recorded.{tracker_size, tracker_short, tracker_at, register_there, record_after, duplicate_there, report_there}
 use Rattle.acks.specs.AckBlocks.{ack_fields_of, ack_writing, ack_room}
 use Rattle.acks.specs.Runs.{whole_pairs, run_sum}
@@ -79,7 +78,7 @@ module _ (top : ℕ) (got : ℕ → Bool) where
     where
       go : (b : Bool) → got top ≡ b → ((report_of top got).number ≡ 0 → ⊥) → (report_of top got).number ≡ 41
       go true e ne = absurd (ne (faithful top got e).number_is)
-      go false e ne = ap (λ (z : AckInfo). z.number) (unheard top got e)
+      go false e ne = ap (λ (z : Report). z.number) (unheard top got e)
 
   is_paired : (report_of top got).number ≡ 0 → (length (pair_bytes (report_of top got)) % 2 ≡ 0) × (length (pair_bytes (report_of top got)) ≤ 254)
   unfolding refused_report
@@ -87,7 +86,7 @@ module _ (top : ℕ) (got : ℕ → Bool) where
     where
       go : (b : Bool) → got top ≡ b → (length (pair_bytes (report_of top got)) % 2 ≡ 0) × (length (pair_bytes (report_of top got)) ≤ 254)
       go true e = ((faithful top got e).even, (faithful top got e).few)
-      go false e = let w : ◌≡◌ {A = ℕ} 41 0 = sym (ap (λ (y : AckInfo). y.number) (unheard top got e)) ∙ z in absurd (omega arith)
+      go false e = let w : ◌≡◌ {A = ℕ} 41 0 = sym (ap (λ (y : Report). y.number) (unheard top got e)) ∙ z in absurd (omega arith)
 
   -- and of a highest number of four bytes its numbers fit an Ack block
   is_fitting : (report_of top got).number ≡ 0 → top < 256 ^ 4 → fits (widths 12) (ack_fields_of (report_of top got)) ≡ true
@@ -96,7 +95,7 @@ module _ (top : ℕ) (got : ℕ → Bool) where
     where
       go : (b : Bool) → got top ≡ b → fits (widths 12) (ack_fields_of (report_of top got)) ≡ true
       go true e = let f = faithful top got e in ack_fields_fit (report_of top got) (omega (arith, f.through_is)) (omega (arith, f.adds_up))
-      go false e = let w : ◌≡◌ {A = ℕ} 41 0 = sym (ap (λ (y : AckInfo). y.number) (unheard top got e)) ∙ z in absurd (omega arith)
+      go false e = let w : ◌≡◌ {A = ℕ} 41 0 = sym (ap (λ (y : Report). y.number) (unheard top got e)) ∙ z in absurd (omega arith)
 
 -- 41 where a tracker reports nothing; 59 too where its record is short
 pub tracker_report : (t : Tracker) → ((ack_info t).number ≡ 0 → ⊥) → (ack_info t).number ≡ 41
@@ -122,16 +121,16 @@ duplicate_numbers r n = go (tracker_short r) (is_duplicate (tracker_at r).highes
     go false false = inl refl
 
 -- the room of an Ack block
-pub ack_leaves : (r : AckInfo) (room : List ℕ) (m : ℕ) → ack_writing r (length room) ≡ Wrote.Refused m → ack_room r room ≡ room
+pub ack_leaves : (r : Report) (room : List ℕ) (m : ℕ) → ack_writing r (length room) ≡ Err m → ack_room r room ≡ room
 unfolding ack_writing ack_room
 ack_leaves r room m = go (eqb r.number 0)
   where
-    go : (b : Bool) → cond b (writing 12 (ack_fields_of r) (pair_bytes r) (length room)) (Wrote.Refused r.number) ≡ Wrote.Refused m → cond b (room_after 12 (ack_fields_of r) (pair_bytes r) room) room ≡ room
+    go : (b : Bool) → cond b (writing 12 (ack_fields_of r) (pair_bytes r) (length room)) (Err r.number) ≡ Err m → cond b (room_after 12 (ack_fields_of r) (pair_bytes r) room) room ≡ room
     go true e = Blocks.write_leaves 12 (ack_fields_of r) (pair_bytes r) room m e
     go false e = refl
 
 -- and its number is none of success
-pub ack_refused : (r : AckInfo) (room m : ℕ) → ack_writing r room ≡ Wrote.Refused m → m ≡ 0 → ⊥
+pub ack_refused : (r : Report) (room m : ℕ) → ack_writing r room ≡ Err m → m ≡ 0 → ⊥
 unfolding ack_writing
 ack_refused r room m = go (eqb r.number 0) refl
   where
@@ -140,7 +139,7 @@ ack_refused r room m = go (eqb r.number 0) refl
     never (inr (inl e)) o = omega arith
     never (inr (inr e)) o = omega arith
 
-    go : (b : Bool) → eqb r.number 0 ≡ b → cond b (writing 12 (ack_fields_of r) (pair_bytes r) room) (Wrote.Refused r.number) ≡ Wrote.Refused m → m ≡ 0 → ⊥
+    go : (b : Bool) → eqb r.number 0 ≡ b → cond b (writing 12 (ack_fields_of r) (pair_bytes r) room) (Err r.number) ≡ Err m → m ≡ 0 → ⊥
     go true q e o = never (Blocks.write_numbers 12 (ack_fields_of r) (pair_bytes r) room m e) o
     go false q e o = let n : r.number ≡ m = cc in eqb-false r.number 0 q (n ∙ o)
 
@@ -172,12 +171,12 @@ fitting r bytes = by (ltb (length r) tracker_size) refl
     by false e z = let n = ltb-false (length r) tracker_size e in report_fits (tracker_at r) z (little_at_lt 4 r 0 (omega (arith, n)) bytes)
 
 -- 30, 41 or 59 where the block of a record's report is not written
-pub ack_numbers_lem : (r : List ℕ) (room m : ℕ) → Bytes r → ack_writing (report_there r) room ≡ Wrote.Refused m → OneOf (30 ∷ 41 ∷ 59 ∷ []) m
+pub ack_numbers_lem : (r : List ℕ) (room m : ℕ) → Bytes r → ack_writing (report_there r) room ≡ Err m → OneOf (30 ∷ 41 ∷ 59 ∷ []) m
 unfolding ack_writing
 ack_numbers_lem r room m bytes = go (eqb (report_there r).number 0) refl
   where
     go : (b : Bool) → eqb (report_there r).number 0 ≡ b
-        → cond b (writing 12 (ack_fields_of (report_there r)) (pair_bytes (report_there r)) room) (Wrote.Refused (report_there r).number) ≡ Wrote.Refused m → OneOf (30 ∷ 41 ∷ 59 ∷ []) m
+        → cond b (writing 12 (ack_fields_of (report_there r)) (pair_bytes (report_there r)) room) (Err (report_there r).number) ≡ Err m → OneOf (30 ∷ 41 ∷ 59 ∷ []) m
     go true q e =
         let n : (report_there r).number ≡ 0 = eqb-true (report_there r).number 0 q in
         let z = paired r n in
@@ -191,7 +190,7 @@ pub silent_is_41 : silent.number ≡ 41
 unfolding refused_report
 silent_is_41 = refl
 
-pub silent_unwritten : (room : ℕ) → ack_writing silent room ≡ Wrote.Refused 41
+pub silent_unwritten : (room : ℕ) → ack_writing silent room ≡ Err 41
 unfolding ack_writing refused_report
 silent_unwritten room = refl
 

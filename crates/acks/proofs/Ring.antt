@@ -5,6 +5,7 @@ use mathlib.Core.List.{List}
 use mathlib.Core.Logic.{⊎_elim, ◌⊎◌, inl, inr}
 use Prim.Native.Nat.{ℕ, zero, suc, ◌+◌, ◌%◌, ◌≤◌, ◌<◌}
 use native.Mathlib.Omega.{arith}
+use native.Mathlib.Numerals.{add-one}
 use lib.Dec.{ltb, eqb}
 use lib.ListN.{set, length, length-set}
 use lib.Seq.{get_or-set_same, get_or-set_other}
@@ -22,6 +23,11 @@ pub length_clear : (m : List ℕ) (a d : ℕ) → length (clear_up m a d) ≡ le
 unfolding clear_up
 length_clear m a zero = refl
 length_clear m a (suc d) = length-set (clear_up m a d) ((a + d) % 255) 0 ∙ length_clear m a d
+
+-- one more number unset
+pub clear_more : (m : List ℕ) (a d : ℕ) → clear_up m a (d + 1) ≡ set (clear_up m a d) ((a + d) % 255) 0
+unfolding clear_up
+clear_more m a d = rw (add-one d)
 
 pub mod_in : (x n : ℕ) → n ≡ 255 → x % 255 < n
 mod_in x n e = omega arith

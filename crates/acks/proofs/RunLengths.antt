@@ -1,6 +1,6 @@
 -- Laws of run lengths. Assumes nothing.
 use mathlib.Core.Path.{◌≡◌, refl, sym, ap, ◌∙◌}
-use mathlib.Core.Bool.{Bool, true, false, not, beq, true≢false, false≢true}
+use mathlib.Core.Bool.{Bool, true, false, not}
 use mathlib.Core.List.{List, [], ◌∷◌, ◌++◌, map}
 use Prim.Native.Nat.{ℕ, zero, suc, ◌+◌, ◌≤◌, ◌<◌, suc-le-suc}
 use native.Mathlib.Omega.{arith}
@@ -69,18 +69,6 @@ leading_other true (false ∷ l) e h = omega arith
 leading_other false (false ∷ l) e h = absurd (omega arith)
 leading_other false (true ∷ l) e h = omega arith
 
-pub leading_same : (b : Bool) (l : List Bool) → leading b (b ∷ l) ≡ suc (leading b l)
-unfolding leading
-leading_same true l = refl
-leading_same false l = refl
-
-pub leading_not : (b x : Bool) (l : List Bool) → (x ≡ b → ⊥) → leading b (x ∷ l) ≡ 0
-unfolding leading
-leading_not true true l h = absurd (h refl)
-leading_not true false l h = refl
-leading_not false false l h = absurd (h refl)
-leading_not false true l h = refl
-
 -- a run that ends in the first of two lists, and one that fills it
 pub leading_append_stop : (b : Bool) (x y : List Bool) → leading b x < length x → leading b (x ++ y) ≡ leading b x
 unfolding leading
@@ -102,16 +90,3 @@ pub drop_map : {A B : Type 0} (f : A → B) (j : ℕ) (l : List A) → drop j (m
 drop_map f zero l = refl
 drop_map f (suc j) [] = refl
 drop_map f (suc j) (x ∷ l) = drop_map f j l
-
--- what a test of two bools says
-pub bools_ne : (a b : Bool) → not (beq a b) ≡ true → a ≡ b → ⊥
-bools_ne true true e q = false≢true e
-bools_ne true false e q = true≢false q
-bools_ne false true e q = false≢true q
-bools_ne false false e q = false≢true e
-
-pub bools_eq : (a b : Bool) → not (beq a b) ≡ false → a ≡ b
-bools_eq true true e = refl
-bools_eq true false e = absurd (true≢false e)
-bools_eq false true e = absurd (true≢false e)
-bools_eq false false e = refl

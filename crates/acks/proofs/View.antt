@@ -1,30 +1,48 @@
 -- Laws of the numbers below a number, as the marks show them. Assumes nothing.
 use mathlib.Core.Path.{◌≡◌, refl, sym, ap, ◌∙◌}
-use mathlib.Core.Bool.{Bool, not}
+use mathlib.Core.Bool.{Bool, true, false, not, beq, cond}
 use mathlib.Core.List.{List, [], ◌∷◌, ◌++◌, map, map-append}
 use mathlib.Core.Logic.{⊎_elim}
 use Prim.Native.Nat.{ℕ, zero, suc, ◌+◌, ◌-◌, ◌*◌, ◌/◌, ◌%◌, ◌≤◌, ◌<◌, min}
 use native.Mathlib.Omega.{arith}
 use native.Mathlib.Nat.{eq-zero-or-pos}
 use lib.Dec.{eqb}
-use lib.ListN.{length, drop, get_or, length-map}
+use lib.ListN.{length, take, drop, get_or, length-map}
+use Rattle.std.specs.Prelude.{reverse}
+use Rattle.std.specs.List.{prefix_len}
+use Rattle.std.proofs.lemmas.List.{reverse-append}
+use Rattle.wire.specs.Parts.{part}
+use Rattle.wire.proofs.Parts.{part_add, part_one, part_none, part_is}
 use Rattle.acks.specs.Window.{falling}
 use Rattle.acks.specs.Runs.{leading}
 use Rattle.acks.specs.Tracking.{mark}
 use Rattle.acks.specs.Reporting.{view}
 use Rattle.acks.proofs.Falling.{length_falling, drop_falling, falling_append}
-use Rattle.acks.proofs.RunLengths.{drop_map, leading_same, leading_not, leading_le, leading_append_stop, leading_append_on}
+use Rattle.acks.proofs.RunLengths.{drop_map, leading_le, leading_append_stop, leading_append_on}
 
 sub_swap : (a b : ℕ) → a - 1 - b ≡ a - b - 1
 sub_swap a b = omega arith
 
-sub_more : (a b : ℕ) → a - (b + 1) ≡ a - b - 1
-sub_more a b = omega arith
+none : (b : Bool) → 0 ≡ leading b []
+unfolding leading
+none true = refl
+none false = refl
 
-sub_pos : (a b : ℕ) → b < a → 0 < a - b
-sub_pos a b h = omega arith
+counted_one : (want b : Bool) (n : ℕ) (l : List Bool) → n ≡ leading want l → cond (beq b want) (1 + n) 0 ≡ leading want (b ∷ l)
+unfolding leading
+counted_one true true n l e = omega arith
+counted_one true false n l e = refl
+counted_one false true n l e = refl
+counted_one false false n l e = omega arith
 
 module _ (m : List ℕ) where
+  last_one : (k e : ℕ) → suc k ≤ e → e ≤ length m → part m (e - suc k) (suc k) ≡ part m (e - 1 - k) k ++ (get_or m (e - 1) 0 ∷ [])
+  last_one k e h g =
+      let o : e - suc k ≡ e - 1 - k = omega arith in
+      let n : suc k ≡ k + 1 = omega arith in
+      let p : e - 1 - k + k ≡ e - 1 = omega arith in
+      rw (o, n, part_add m (e - 1 - k) k 1, p, ← part_one m (e - 1) 0 (omega arith))
+
   pub length_view : (n k : ℕ) → length (view m n k) ≡ k
   unfolding view
   length_view n k = length-map (falling (n - 1) k) (mark m) ∙ length_falling (n - 1) k
@@ -56,17 +74,20 @@ module _ (m : List ℕ) where
       ∙ map-append (mark m) (falling (n - 1) a) (falling (n - 1 - a) b)
       ∙ rw (sub_swap n a)
 
-  -- a mark seen on: it is as wanted, or the run ends there
-  module _ (top k j : ℕ) (want : Bool) (h : j < k) where
-    at_j : view m (top - j) (k - j) ≡ mark m (top - 1 - j) ∷ view m (top - (j + 1)) (k - (j + 1))
-    at_j =
-        rw (sub_swap top j, sub_more top j, sub_more k j) (view_cons (top - j) (k - j) (sub_pos k j h))
+  -- the k marks below place e, counted from the last one down while they are as wanted
+  module _ (whole : length m ≡ 255) (want : Bool) where
+    pub straight_is : (k e : ℕ) → k ≤ e → e ≤ 255 → prefix_len (λ x. beq (not (eqb x 0)) want) (reverse (part m (e - k) k)) ≡ leading want (view m e k)
+    unfolding mark
+    straight_is zero e h g = rw (part_none m (e - 0), view_none e) (none want)
+    straight_is (suc k) e h g =
+        let last : part m (e - suc k) (suc k) ≡ part m (e - 1 - k) k ++ (get_or m (e - 1) 0 ∷ []) = last_one k e h (omega arith) in
+        let at : (e - 1) % 255 ≡ e - 1 = omega arith in
+        rw (last, reverse-append (part m (e - 1 - k) k) (get_or m (e - 1) 0 ∷ []), view_suc e k, at)
+        (counted_one want (not (eqb (get_or m (e - 1) 0) 0)) (prefix_len (λ x. beq (not (eqb x 0)) want) (reverse (part m (e - 1 - k) k))) (view m (e - 1) k) (straight_is k (e - 1) (omega arith) (omega arith)))
 
-    pub run_more : mark m (top - 1 - j) ≡ want → leading want (view m (top - j) (k - j)) ≡ suc (leading want (view m (top - (j + 1)) (k - (j + 1))))
-    run_more e = ap (leading want) at_j ∙ rw e (leading_same want (view m (top - (j + 1)) (k - (j + 1))))
-
-    pub run_stop : (mark m (top - 1 - j) ≡ want → ⊥) → leading want (view m (top - j) (k - j)) ≡ 0
-    run_stop e = ap (leading want) at_j ∙ leading_not want (mark m (top - 1 - j)) (view m (top - (j + 1)) (k - (j + 1))) e
+    -- the same of a slice from place o to place e
+    pub straight_at : (k e o n : ℕ) → k ≤ e → e ≤ 255 → o ≡ e - k → n ≡ k → prefix_len (λ x. beq (not (eqb x 0)) want) (reverse (take n (drop o m))) ≡ leading want (view m e k)
+    straight_at k e o n h g p q = rw (q, p, part_is m (e - k) k) (straight_is k e h g)
 
   -- numbers that are 255 apart share their marks
   same_place : (n e q : ℕ) → n ≡ e + 255 * q → 0 < e → mark m (n - 1) ≡ mark m (e - 1)

@@ -1,11 +1,12 @@
 -- The tracker's record as bytes that a caller lends: the highest number in four, its low byte first, then the 255 marks.
-use Rattle.std.specs.Prelude.{Bool, cond, List, [], ◌∷◌, ◌++◌, ℕ, ltb, length}
+use Rattle.std.specs.Prelude.{Bool, true, false, cond, Result, Ok, Err, List, [], ◌∷◌, ◌++◌, ℕ, ltb, length}
 use Rattle.wire.specs.Parts.{part, splice}
 use Rattle.wire.specs.Numbers.{little_at, little_bytes}
 use Rattle.acks.specs.Tracking.{is_duplicate, register_of}
-use Rattle.acks.specs.Reporting.{refused_report, ack_info}
+use Rattle.acks.specs.Reporting.{Report, refused_report, ack_info}
 use Rattle.acks.specs.declared.Tracker.{Tracker}
-use Rattle.acks.specs.declared.AckInfo.{AckInfo}
+use Rattle.refusals.specs.declared.Refusal.{Refusal}
+use Rattle.refusals.specs.Numbers.{number}
 
 -- the bytes of a tracker's record
 abbrev pub tracker_size : ℕ
@@ -44,6 +45,12 @@ record_all r (n ∷ calls) = record_all (record_after r n) calls
 unfoldable pub duplicate_there : List ℕ → ℕ → ℕ
 duplicate_there r n = cond (tracker_short r) 59 (cond (is_duplicate (tracker_at r).highest (tracker_at r).marks n) 1 0)
 
+-- what the code answers to the same, as that number
+abbrev pub duplicate_number : Result Bool Refusal → ℕ
+duplicate_number (Ok true) = 1
+duplicate_number (Ok false) = 0
+duplicate_number (Err r) = number r
+
 -- what the tracker there reports
-unfoldable pub report_there : List ℕ → AckInfo
+unfoldable pub report_there : List ℕ → Report
 report_there r = cond (tracker_short r) (refused_report 59) (ack_info (tracker_at r))

@@ -1,9 +1,15 @@
 -- The tracker's record, and what registering makes of it.
-use Rattle.std.specs.Prelude.{Bool, not, cond, ◌&&◌, List, [], ◌∷◌, ℕ, zero, suc, ◌+◌, ◌-◌, ◌%◌, max, eqb, replicate, get_or, set}
+use Rattle.std.specs.Prelude.{Bool, not, cond, ◌&&◌, Result, Ok, Err, List, [], ◌∷◌, ℕ, zero, suc, ◌+◌, ◌-◌, ◌%◌, max, eqb, replicate, get_or, set}
 use Rattle.acks.specs.Window.{in_window}
 use Rattle.acks.specs.History.{answer_to}
 use Rattle.acks.specs.declared.Tracker.{Tracker}
-use Rattle.acks.specs.declared.Registered.{Registered}
+use Rattle.refusals.specs.declared.Refusal.{Refusal}
+use Rattle.refusals.specs.Numbers.{number_of}
+
+-- What a registration answers (0, 40, 42 or 43), and the tracker after it.
+pub record Registered : Type 0 where
+  pub answer : ℕ
+  pub tracker : Tracker
 
 -- a tracker as it starts: 255 marks, all unset
 unfoldable pub fresh : Tracker
@@ -42,3 +48,12 @@ register_of t n = record { answer = register_answer t n; tracker = cond (eqb (re
 unfoldable pub register_all : Tracker → List ℕ → Tracker
 register_all t [] = t
 register_all t (n ∷ calls) = register_all (register_of t n).tracker calls
+
+-- a registration that the code made: its answer, and the tracker that it left
+abbrev pub registered_as : {T : Type 0} → Result T Refusal → Tracker → Registered
+registered_as r t = record { answer = number_of r; tracker = t }
+
+-- the highest number once a registration gave the new one; refused, as it was
+abbrev pub raised : ℕ → Result ℕ Refusal → ℕ
+raised top (Ok h) = h
+raised top (Err r) = top

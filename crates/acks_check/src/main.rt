@@ -3,109 +3,90 @@
 
 mod asked;
 mod expanded;
-mod fields;
-
-ghost use Rattle.std.specs.Prelude.{◌≤◌, IfOk};
+mod read;
 
 use acks::{TRACKER_SIZE, Tracker};
+use lines::{Fields, Lines, Tally};
+use refusals::number_of;
 use std::io;
 
-// Whether a line's answers came, and the tracker after it.
+// A tracker twice: by value, and as the bytes that calls in place change.
 #[derive(Clone, Copy)]
-struct Turn {
-    ok: bool,
+pub(crate) struct Both {
     tracker: Tracker,
+    bytes: [u8; TRACKER_SIZE],
 }
 
-fn empty() -> [u8; TRACKER_SIZE] {
-    [0; TRACKER_SIZE]
-}
-
-// A tracker that no call made, by value and as bytes: n is the highest, and alone marked.
-fn start(n: u32, bytes: &mut [u8; TRACKER_SIZE]) -> Tracker {
-    let mut marks = [0u8; 255];
-    let mut fresh = [0u8; TRACKER_SIZE];
-    let i = (n % 255) as usize;
-    marks[i] = 1;
-    fresh[4 + i] = 1;
-    wire_numbers::put_u32_le(&mut fresh, 0, n);
-    *bytes = fresh;
-    Tracker { highest: n, marks }
-}
-
-// A registration by value and one in place.
-fn register(text: &[u8], at: usize, t: Tracker, bytes: &mut [u8; TRACKER_SIZE]) -> Turn {
-    let n = fields::number(text, at);
-    let want = fields::number(text, lines::after(text, at));
-    let r = acks_tracker::register(t, n);
-    let there = acks_tracker::recorded::register_in(bytes, n);
-    let next = r.tracker;
-    Turn {
-        ok: (r.answer == want) & (there == want),
-        tracker: next,
-    }
-}
-
-// The line at a place, by its first letter.
-fn line(text: &[u8], at: usize, t: Tracker, bytes: &mut [u8; TRACKER_SIZE]) -> Turn {
-    let kind = fields::letter(text, at);
-    let rest = lines::after(text, at);
-    if kind == b'n' {
-        *bytes = empty();
-        return Turn {
-            ok: true,
+impl Both {
+    fn new() -> Both {
+        Both {
             tracker: acks_tracker::new(),
-        };
+            bytes: [0; TRACKER_SIZE],
+        }
     }
-    if kind == b's' {
-        return Turn {
-            ok: true,
-            tracker: start(fields::number(text, rest), bytes),
-        };
-    }
-    if kind == b'r' {
-        return register(text, rest, t, bytes);
-    }
-    let shown = *bytes;
-    Turn {
-        ok: asked::line(kind, text, rest, t, shown),
-        tracker: t,
-    }
-}
 
-fn differs(out: &impl Print, number: u64) -> io::Result<()> {
-    println!(out; "differs: line {number}")
-}
-
-// 1 where a line's answers came, else 0 and a line that says so.
-fn counted(out: &impl Print, ok: bool, number: u64) -> io::Result<u64>
-    ensures { IfOk result (λ n. n ≤ 1) }
-{
-    if ok {
-        return Ok(1);
+    // A tracker that no call made: n is the highest, and alone marked.
+    // n % 255 as usize: std has no From of a u32 for it, and try_from would answer a Result that cannot fail.
+    fn start(n: u32) -> Both {
+        let mut marks = [0u8; 255];
+        let mut bytes = [0u8; TRACKER_SIZE];
+        let i = (n % 255) as usize;
+        marks[i] = 1;
+        bytes[4 + i] = 1;
+        wire_numbers::put_le(&mut bytes, 0, n);
+        Both {
+            tracker: Tracker { highest: n, marks },
+            bytes,
+        }
     }
-    differs(out, number)?;
-    Ok(0)
+
+    // Whether a registration by value and one in place both answer as the line says.
+    fn register(&mut self, fields: &mut Fields) -> bool {
+        let n = read::word(fields);
+        let want = read::word(fields);
+        let answer = number_of(acks_tracker::register(&mut self.tracker, n));
+        let there = number_of(acks_tracker::recorded::register_in(&mut self.bytes, n));
+        u32::from(answer) == want && there == answer
+    }
+
+    // Whether the line agrees, by its first letter.
+    fn agrees(&mut self, fields: &mut Fields) -> bool {
+        let Some(letter) = fields.next_field().first() else {
+            return false;
+        };
+        match *letter {
+            b'n' => {
+                *self = Both::new();
+                true
+            }
+            b's' => {
+                *self = Both::start(read::word(fields));
+                true
+            }
+            b'r' => self.register(fields),
+            b'd' => asked::duplicate(fields, self),
+            b'a' => asked::reported(fields, self),
+            b'o' => asked::like_oracle(fields, self),
+            b'e' => expanded::agrees(fields),
+            b'#' => true,
+            _ => false,
+        }
+    }
 }
 
 // Runs each line, and prints how many agree.
 fn run(out: &impl Print, text: &[u8]) -> io::Result<()> {
-    let mut at = 0;
-    let mut all: u64 = 0;
-    let mut same: u64 = 0;
-    let mut tracker = acks_tracker::new();
-    let mut bytes = empty();
-    while at < text.len() {
-        let turn = line(text, at, tracker, &mut bytes);
-        let next = turn.tracker;
-        tracker = next;
-        all += 1;
-        same += counted(out, turn.ok, all)?;
-        at = lines::after_line(text, at);
+    let mut both = Both::new();
+    let mut tally = Tally::new();
+    for line in Lines::of(text) {
+        let mut fields = line;
+        let agrees = both.agrees(&mut fields);
+        tally.print(out, agrees)?;
     }
-    println!(out; "{all} lines, {same} agree")
+    println!(out; "{} lines, {} agree", tally.all, tally.agree)
 }
 
+// A main of its own, for the buffer's size is this list's.
 fn main(rt: HostRuntime) -> io::Result<()> {
     let mut text = [0u8; 65536];
     let n = lines::read_full(&mut rt.stdin(), &mut text)?;

@@ -1,65 +1,59 @@
 // What an acknowledgement names: the through number, count numbers below it, then each pair skips and names.
+// u32 and usize are turned with as: std has no From between them, and each number is proved to fit.
 #![tactic(auto)]
 
-ghost use Rattle.std.specs.Prelude.{◌≡◌, true, false, not, ◌+◌, ◌-◌, ◌≤◌, ◌<◌, length, get_or};
+ghost use Rattle.std.specs.Prelude.{◌≡◌, true, false, not, ◌+◌, ◌-◌, ◌≤◌, ◌<◌, length, get_or, MatchOption};
 ghost use Rattle.wire.specs.Parts.{part, splice};
 ghost use Rattle.acks.specs.Window.{falling};
 ghost use Rattle.acks.specs.Runs.{named, flags, whole_pairs, run_sum};
 ghost use Rattle.acks.specs.Expanding.{ack_numbers, goes_below, expand_of, list_after};
+ghost use Rattle.acks_expand.specs.Expanding.{expanded_as};
 
-use acks::Expanded;
 use blocks::Part;
-use wire::shorter;
+use refusals::Refusal;
 
-// Whether count and pairs stay at 0 or above; if so, how many numbers they name and the lowest that they speak of, else 0 and 0.
-#[derive(Clone, Copy)]
-pub struct Measured {
-    pub within: bool,
+// An acknowledgement, as an Ack block says it: the through number, how many numbers directly below it, and the pairs.
+#[derive(Clone, Copy, Debug, PartialEq, Eq)]
+pub struct Ack<'a> {
+    pub through: u32,
+    pub count: u8,
+    pub pairs: &'a [u8],
+}
+
+// One whose count and pairs stay at 0 or above: how many numbers it names, and the lowest that it speaks of.
+#[derive(Clone, Copy, Debug, PartialEq, Eq)]
+pub struct Measured<'a> {
+    pub ack: Ack<'a>,
     pub names: usize,
     pub lowest: u32,
+    ghost named: { names ≡ length (ack_numbers ack.through ack.count ack.pairs.now) },
+    ghost ends: { lowest + (ack.count + run_sum (whole_pairs ack.pairs.now)) ≡ ack.through },
 }
 
-// A byte of the pairs, as a number that others are added to.
-pub fn byte(s: &[u8], i: usize) -> u32
-    requires { i < length s.now }
-    ensures { (result ≡ get_or s.now i 0) × (result < 256) }
-{
-    s[i] as u32
-}
-
-// What an acknowledgement comes to, without its numbers: 44 can be given where there is no list.
-pub fn measure(through: u32, count: u8, pairs: &[u8]) -> Measured
-    ensures { (result.within ≡ not (goes_below through count pairs.now)) × (result.within ≡ true → (result.names ≡ length (ack_numbers through count pairs.now)) × (result.lowest + (count + run_sum (whole_pairs pairs.now)) ≡ through)) }
-{
-    let limit = through as u64;
-    let mut sum = count as u64;
-    let mut names = 1 + count as usize;
-    let mut i: usize = 0;
-    while i + 1 < pairs.len() {
-        if limit < sum {
-            return Measured {
-                within: false,
-                names: 0,
-                lowest: 0,
-            };
+impl<'a> Ack<'a> {
+    // What it comes to, without its numbers: none where it goes below 0, so 44 can be given where there is no list.
+    pub fn measure(self) -> Option<Measured<'a>>
+        ensures { MatchOption result (goes_below self.entry.through self.entry.count self.entry.pairs.now ≡ true) (λ m. (goes_below self.entry.through self.entry.count self.entry.pairs.now ≡ false) × (m.ack ≡ self.entry)) }
+    {
+        let limit = u64::from(self.through);
+        let mut sum = u64::from(self.count);
+        let mut names = 1 + usize::from(self.count);
+        for pair in self.pairs.as_chunks::<2>().0 {
+            if limit < sum {
+                return None;
+            }
+            let [nack, ack] = *pair;
+            sum = sum + u64::from(nack) + u64::from(ack);
+            names += usize::from(ack);
         }
-        let nack = byte(pairs, i);
-        let ack = byte(pairs, i + 1);
-        sum = sum + nack as u64 + ack as u64;
-        names += ack as usize;
-        i += 2;
-    }
-    if sum <= limit {
-        return Measured {
-            within: true,
-            names,
-            lowest: through - sum as u32,
-        };
-    }
-    Measured {
-        within: false,
-        names: 0,
-        lowest: 0,
+        if sum <= limit {
+            return Some(Measured {
+                ack: self,
+                names,
+                lowest: self.through - sum as u32,
+            });
+        }
+        None
     }
 }
 
@@ -68,11 +62,8 @@ fn fall(list: &mut [u32], at: usize, above: u32, k: u32)
     requires { (at + k ≤ length list.old) × (k ≤ above) }
     ensures { list.new ≡ splice list.old at (falling (above - 1) k) }
 {
-    let mut j: u32 = 0;
-    while j < k {
-        let p = at + j as usize;
-        list[p] = above - 1 - j;
-        j += 1;
+    for j in 0..k {
+        list[at + j as usize] = above - 1 - j;
     }
 }
 
@@ -83,48 +74,47 @@ fn fill_pairs(pairs: &[u8], list: &mut [u32], place: usize, top: u32)
 {
     let mut at = place;
     let mut above = top;
-    let mut i: usize = 0;
-    while i + 1 < pairs.len() {
-        let nack = byte(pairs, i);
-        let ack = byte(pairs, i + 1);
+    for pair in pairs.as_chunks::<2>().0 {
+        let nack = u32::from(pair[0]);
+        let ack = u32::from(pair[1]);
         fall(list, at, above - nack, ack);
         above = above - nack - ack;
         at += ack as usize;
-        i += 2;
     }
 }
 
-// The numbers, into a list that holds them.
-fn fill(through: u32, count: u8, pairs: &[u8], list: &mut [u32])
-    requires { (count + run_sum (whole_pairs pairs.now) ≤ through) × (length (ack_numbers through count pairs.now) ≤ length list.old) }
-    ensures { list.new ≡ splice list.old 0 (ack_numbers through count pairs.now) }
-{
-    let first = count as u32;
-    list[0] = through;
-    fall(list, 1, through, first);
-    fill_pairs(pairs, list, 1 + count as usize, through - first);
+impl Measured<'_> {
+    // The numbers, into a list that holds them.
+    fn fill(self, list: &mut [u32])
+        requires { self.names ≤ length list.old }
+        ensures { list.new ≡ splice list.old 0 (ack_numbers self.entry.ack.through self.entry.ack.count self.entry.ack.pairs.now) }
+    {
+        let through = self.ack.through;
+        let first = u32::from(self.ack.count);
+        list[0] = through;
+        fall(list, 1, through, first);
+        fill_pairs(
+            self.ack.pairs,
+            list,
+            1 + usize::from(self.ack.count),
+            through - first,
+        );
+    }
 }
 
-pub fn expand(through: u32, count: u8, pairs: &[u8], list: &mut [u32]) -> Expanded
-    ensures { (result ≡ expand_of through count pairs.now (length list.old)) × (list.new ≡ list_after through count pairs.now list.old) }
-{
-    let m = measure(through, count, pairs);
-    if !m.within {
-        return Expanded {
-            number: 44,
-            count: 0,
+impl Ack<'_> {
+    // The numbers that it names, falling, in front of a list: how many; or 44 or 46, and then the list stays.
+    pub fn expand(self, list: &mut [u32]) -> Result<usize, Refusal>
+        ensures { (expanded_as result ≡ expand_of self.entry.through self.entry.count self.entry.pairs.now (length list.old)) × (list.new ≡ list_after self.entry.through self.entry.count self.entry.pairs.now list.old) }
+    {
+        let Some(measured) = self.measure() else {
+            return Err(Refusal::BelowZero);
         };
-    }
-    if list.len() < m.names {
-        return Expanded {
-            number: 46,
-            count: 0,
-        };
-    }
-    fill(through, count, pairs, list);
-    Expanded {
-        number: 0,
-        count: m.names,
+        if list.len() < measured.names {
+            return Err(Refusal::ExpansionLong);
+        }
+        measured.fill(list);
+        Ok(measured.names)
     }
 }
 
@@ -135,10 +125,15 @@ pub fn expand_ack(
     count: u8,
     pairs: Part,
     list: &mut [u32],
-) -> Expanded
-    ensures { (result ≡ expand_of through count (part payload.now pairs.start pairs.len) (length list.old)) × (list.new ≡ list_after through count (part payload.now pairs.start pairs.len) list.old) }
+) -> Result<usize, Refusal>
+    ensures { (expanded_as result ≡ expand_of through count (part payload.now pairs.start pairs.len) (length list.old)) × (list.new ≡ list_after through count (part payload.now pairs.start pairs.len) list.old) }
 {
-    let from = shorter(pairs.start, payload.len());
-    let to = from + shorter(pairs.len, payload.len() - from);
-    expand(through, count, &payload[from..to], list)
+    let from = pairs.start.min(payload.len());
+    let to = from + pairs.len.min(payload.len() - from);
+    let ack = Ack {
+        through,
+        count,
+        pairs: &payload[from..to],
+    };
+    ack.expand(list)
 }

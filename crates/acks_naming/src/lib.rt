@@ -1,100 +1,120 @@
 // Whether an acknowledgement names a number, found by a walk up its pairs, the last pair first: for numbers that rise it goes over the pairs once.
 #![tactic(auto)]
 
-ghost use Rattle.std.specs.Prelude.{◌≡◌, ◌+◌, ◌≤◌};
-ghost use Rattle.acks.specs.Runs.{whole_pairs, run_sum};
+ghost use Rattle.std.specs.Prelude.{◌≡◌, ◌≤◌, length, take};
 ghost use Rattle.acks.specs.History.{among};
 ghost use Rattle.acks.specs.Expanding.{ack_numbers};
 ghost use Rattle.acks.specs.Naming.{StandsAt, RunOf};
 
-use acks_expand::byte;
+use acks_expand::Measured;
 
-// Whether a number is named, and where the walk stands then: the pairs from place on speak of numbers below low. All numbers from first to last are named, or none is.
-#[derive(Clone, Copy)]
-pub struct Found {
-    pub named: bool,
-    pub place: usize,
+// Where the walk stands: the pairs that are left speak of the numbers from low on, and those behind them of numbers below. All numbers from first to last are named, or none is.
+#[derive(Clone, Copy, Debug, PartialEq, Eq)]
+pub struct Walk<'a> {
+    pub said: Measured<'a>,
+    pub left: &'a [u8],
     pub low: u32,
     pub first: u32,
     pub last: u32,
+    pub named: bool,
+    ghost front: { left.now ≡ take (length left.now) said.ack.pairs.now },
+    ghost stands: { StandsAt said.ack.through said.ack.count said.ack.pairs.now (length left.now) low },
+    ghost run: { RunOf said.ack.through said.ack.count said.ack.pairs.now first last named },
 }
 
-// The walk goes up from where it stands, to the pair that speaks of x; and over it where x is skipped, as the numbers above that run are.
-fn climb(through: u32, count: u8, pairs: &[u8], place: usize, low: u32, x: u32) -> Found
-    requires { (count + run_sum (whole_pairs pairs.now) ≤ through) × StandsAt through count pairs.now place low × (low ≤ x) }
-    ensures { (result.named ≡ among (ack_numbers through count pairs.now) x) × StandsAt through count pairs.now result.place result.low × RunOf through count pairs.now result.first result.last result.named }
-{
-    let mut p = place;
-    let mut above = low;
-    while 1 < p {
-        let pair = p - 2;
-        let nack = byte(pairs, pair);
-        let ack = byte(pairs, pair + 1);
-        if x - above < ack {
-            return Found {
+impl<'a> Walk<'a> {
+    // It begins behind the last pair, in no run.
+    pub fn new(said: Measured<'a>) -> Walk<'a>
+        ensures { (result.said ≡ said.entry) × (result.low ≡ said.entry.lowest) }
+    {
+        let n = said.ack.pairs.len();
+        Walk {
+            said,
+            left: &said.ack.pairs[..n - n % 2],
+            low: said.lowest,
+            first: 1,
+            last: 0,
+            named: false,
+        }
+    }
+
+    // It goes up from where it stands, to the pair that speaks of x; and over it where x is skipped, as the numbers above that run are.
+    fn climb(self, x: u32) -> Walk<'a>
+        requires { self.low ≤ x }
+        ensures { (result.said ≡ self.entry.said) × (result.named ≡ among (ack_numbers self.entry.said.ack.through self.entry.said.ack.count self.entry.said.ack.pairs.now) x) }
+    {
+        let said = self.said;
+        let mut left = self.left;
+        let mut low = self.low;
+        while let Some((before, pair)) = left.split_last_chunk::<2>() {
+            let nack = u32::from(pair[0]);
+            let ack = u32::from(pair[1]);
+            if x - low < ack {
+                return Walk {
+                    said,
+                    left,
+                    low,
+                    first: low,
+                    last: low + ack - 1,
+                    named: true,
+                };
+            }
+            let over = low + ack + nack;
+            if x < over {
+                return Walk {
+                    said,
+                    left: before,
+                    low: over,
+                    first: low + ack,
+                    last: over - 1,
+                    named: false,
+                };
+            }
+            left = before;
+            low = over;
+        }
+        let through = said.ack.through;
+        if x <= through {
+            return Walk {
+                said,
+                left,
+                low,
+                first: low,
+                last: through,
                 named: true,
-                place: p,
-                low: above,
-                first: above,
-                last: above + ack - 1,
             };
         }
-        if x - above < ack + nack {
-            let over = above + ack + nack;
-            return Found {
-                named: false,
-                place: pair,
-                low: over,
-                first: above + ack,
-                last: over - 1,
-            };
+        Walk {
+            said,
+            left,
+            low,
+            first: through + 1,
+            last: u32::MAX,
+            named: false,
         }
-        above = above + ack + nack;
-        p = pair;
     }
-    if x <= through {
-        return Found {
-            named: true,
-            place: p,
-            low: above,
-            first: above,
-            last: through,
-        };
-    }
-    Found {
-        named: false,
-        place: p,
-        low: above,
-        first: through + 1,
-        last: 4294967295,
-    }
-}
 
-// Where x lies below the walk, it starts anew from the lowest number that the acknowledgement speaks of.
-pub fn find(
-    through: u32,
-    count: u8,
-    pairs: &[u8],
-    lowest: u32,
-    place: usize,
-    low: u32,
-    x: u32,
-) -> Found
-    requires { (lowest + (count + run_sum (whole_pairs pairs.now)) ≡ through) × StandsAt through count pairs.now place low }
-    ensures { (result.named ≡ among (ack_numbers through count pairs.now) x) × StandsAt through count pairs.now result.place result.low × RunOf through count pairs.now result.first result.last result.named }
-{
-    if low <= x {
-        return climb(through, count, pairs, place, low, x);
-    }
-    if lowest <= x {
-        let n = pairs.len();
-        return climb(through, count, pairs, n - n % 2, lowest, x);
-    }
-    Found {
-        named: false,
-        place,
-        low,
-        first: 0,
-        last: lowest - 1,
+    // It is moved to x and says whether x is named: no pair is read in the run where it stands, and where x lies below it starts anew.
+    pub fn find(self, x: u32) -> Walk<'a>
+        ensures { (result.said ≡ self.entry.said) × (result.named ≡ among (ack_numbers self.entry.said.ack.through self.entry.said.ack.count self.entry.said.ack.pairs.now) x) }
+    {
+        if (self.first..=self.last).contains(&x) {
+            return self;
+        }
+        if self.low <= x {
+            return self.climb(x);
+        }
+        let said = self.said;
+        if said.lowest <= x {
+            return Walk::new(said).climb(x);
+        }
+        Walk {
+            said,
+            left: self.left,
+            low: self.low,
+            first: 0,
+            last: said.lowest - 1,
+            named: false,
+        }
     }
 }

@@ -1,30 +1,35 @@
 // A report written as an Ack block.
 ghost use Rattle.std.specs.Prelude.{◌≡◌, length};
+ghost use Rattle.acks.specs.Reporting.{made, report_as};
 ghost use Rattle.acks.specs.AckBlocks.{ack_fields_of, ack_writing, ack_room};
+ghost use Rattle.refusals.specs.Numbers.{numbered};
 
 use acks::AckInfo;
-use blocks::{ACK, ACK_COUNT, ACK_THROUGH, Written};
+use blocks::{ACK, ACK_COUNT, ACK_THROUGH};
 use blocks_rows::no_fields;
-use wire::shorter;
+use refusals::Refusal;
 
-fn fields_of(r: AckInfo) -> [u64; 8]
-    ensures { result ≡ ack_fields_of r }
+fn fields_of(report: &AckInfo) -> [u64; 8]
+    ensures { result ≡ ack_fields_of (made report.now) }
 {
     let mut fields = no_fields();
-    fields[ACK_THROUGH] = r.through as u64;
-    fields[ACK_COUNT] = r.count as u64;
+    fields[ACK_THROUGH] = u64::from(report.through);
+    fields[ACK_COUNT] = u64::from(report.count);
     fields
 }
 
-// To the start of a room. A report that was refused is not written, and its number is the answer.
-pub fn write_ack(report: AckInfo, room: &mut [u8]) -> Written
-    ensures { (result ≡ ack_writing report (length room.old)) × (room.new ≡ ack_room report room.old) }
+// A report that was made, to the start of a room: its length; refused, as the block writer does, and then the room stays.
+fn put_ack(report: &AckInfo, room: &mut [u8]) -> Result<usize, Refusal>
+    ensures { (numbered result ≡ ack_writing (made report.now) (length room.old)) × (room.new ≡ ack_room (made report.now) room.old) }
 {
-    let number = report.number;
-    let pairs = report.pairs;
-    let len = shorter(report.len, 254);
-    if number != 0 {
-        return Written::Refused { number };
-    }
-    blocks_writer::write_block(ACK, fields_of(report), &pairs[..len], room)
+    let fields = fields_of(report);
+    blocks_writer::write_block(ACK, fields, report.pairs.as_slice(), room)
+}
+
+// To the start of a room: its length. A report that was refused is not written, and its refusal is the answer.
+pub fn write_ack(report: Result<AckInfo, Refusal>, room: &mut [u8]) -> Result<usize, Refusal>
+    ensures { (numbered result ≡ ack_writing (report_as report) (length room.old)) × (room.new ≡ ack_room (report_as report) room.old) }
+{
+    let report = report?;
+    put_ack(&report, room)
 }

@@ -1,63 +1,48 @@
 // What to tell the sender. The Rust's `ack_info`.
+// u8, u32 and usize are turned with as: std has no From for these turns, and each number is proved to fit.
 #![tactic(auto)]
 
 pub mod ack_block;
 mod runs;
 
-ghost use Rattle.std.specs.Prelude.{◌≡◌, length};
+ghost use Rattle.std.specs.Prelude.{◌≡◌};
 ghost use Rattle.acks.specs.Tracking.{mark};
-ghost use Rattle.acks.specs.Reporting.{refused_report, report_of, ack_info};
+ghost use Rattle.acks.specs.Reporting.{report_as, report_of, ack_info};
 ghost use Rattle.acks.specs.Recorded.{report_there};
 
-use acks::{AckInfo, MARKS_AT, TRACKER_SIZE, Tracker};
+use acks::{AckInfo, Tracker};
+use acks_marks::Window;
+use refusals::Refusal;
 
-fn refused(number: u32) -> AckInfo
-    ensures { result ≡ refused_report number }
+// What the marks of a window report.
+fn report_of(seen: Window) -> Result<AckInfo, Refusal>
+    ensures { report_as result ≡ report_of seen.entry.top (mark seen.entry.marks.now) }
 {
-    AckInfo {
-        number,
-        through: 0,
-        count: 0,
-        len: 0,
-        pairs: runs::blank(),
+    let top = seen.top;
+    let marks = seen.marks;
+    if !seen.is_marked(top) {
+        return Err(Refusal::NothingSeen);
     }
-}
-
-// What the marks of the window that ends at top report.
-fn report_of(m: &[u8], top: u32) -> AckInfo
-    requires { length m.now ≡ 255 }
-    ensures { result ≡ report_of top (mark m.now) }
-{
-    if !acks_marks::marked(m, top) {
-        return refused(41);
-    }
-    let k = runs::lesser(top, 254);
-    let count = runs::run(m, top, k, true);
-    let p = runs::pairs(m, top - count, k - count);
-    let bytes = p.bytes;
-    AckInfo {
-        number: 0,
+    let k = top.min(254);
+    let count = runs::run(marks, top, k, true);
+    let pairs = runs::pairs(marks, top - count, k - count);
+    Ok(AckInfo {
         through: top,
         count: count as u8,
-        len: p.len,
-        pairs: bytes,
-    }
+        pairs,
+    })
 }
 
-pub fn report(t: Tracker) -> AckInfo
-    ensures { result ≡ ack_info t }
+// 41 before any number.
+pub fn report(t: &Tracker) -> Result<AckInfo, Refusal>
+    ensures { report_as result ≡ ack_info t.now }
 {
-    let m = t.marks;
-    report_of(&m, t.highest)
+    report_of(Window::of(t))
 }
 
-// Of the tracker as 259 bytes that a caller lends; a report with number 59 where the record is short.
-pub fn report_in(tracker: &[u8]) -> AckInfo
-    ensures { result ≡ report_there tracker.now }
+// Of the tracker as 259 bytes that a caller lends; 59 where the record is short.
+pub fn report_in(tracker: &[u8]) -> Result<AckInfo, Refusal>
+    ensures { report_as result ≡ report_there tracker.now }
 {
-    if tracker.len() < TRACKER_SIZE {
-        return refused(59);
-    }
-    let top = wire_numbers::le_u32(tracker, 0);
-    report_of(&tracker[MARKS_AT..TRACKER_SIZE], top)
+    report_of(Window::lent(tracker)?)
 }

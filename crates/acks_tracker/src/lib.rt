@@ -4,10 +4,13 @@
 pub mod recorded;
 
 ghost use Rattle.std.specs.Prelude.{◌≡◌};
-ghost use Rattle.acks.specs.Tracking.{fresh, is_duplicate, register_of};
+ghost use Rattle.acks.specs.Tracking.{fresh, is_duplicate, register_of, registered_as};
 
-use acks::{Registered, Tracker};
+use acks::Tracker;
+use acks_marks::Window;
+use refusals::Refusal;
 
+#[tactic(auto, unfolding(acks::specs::Tracking::fresh))]
 pub fn new() -> Tracker
     ensures { result ≡ fresh }
 {
@@ -18,30 +21,16 @@ pub fn new() -> Tracker
 }
 
 // Whether n is in the window and received.
-pub fn is_duplicate(t: Tracker, n: u32) -> bool
-    ensures { result ≡ is_duplicate t.highest t.marks n }
+pub fn is_duplicate(t: &Tracker, n: u32) -> bool
+    ensures { result ≡ is_duplicate t.now.highest t.now.marks n }
 {
-    let top = t.highest;
-    let m = t.marks;
-    acks_marks::holds(&m, top, n)
+    Window::of(t).is_duplicate(n)
 }
 
-// The Rust's `register_pkt`.
-pub fn register(t: Tracker, n: u32) -> Registered
-    ensures { result ≡ register_of t n }
+// The Rust's `register_pkt`: 40, 42 or 43, and then the tracker stays.
+pub fn register(t: &mut Tracker, n: u32) -> Result<(), Refusal>
+    ensures { registered_as result t.new ≡ register_of t.old n }
 {
-    let top = t.highest;
-    let mut m = t.marks;
-    let answer = acks_marks::answer(&m, top, n);
-    if answer != 0 {
-        return Registered { answer, tracker: t };
-    }
-    acks_marks::accept(&mut m, top, n);
-    Registered {
-        answer: 0,
-        tracker: Tracker {
-            highest: acks_marks::larger(top, n),
-            marks: m,
-        },
-    }
+    t.highest = acks_marks::register(&mut t.marks, t.highest, n)?;
+    Ok(())
 }

@@ -1,49 +1,24 @@
 -- What a block's bytes are put from, what the writer answers in its order, and what the reader gives. Assumes nothing.
+use Rattle.std.specs.Prelude.{Result, Ok, Err}
 use mathlib.Core.Path.{◌≡◌, refl, sym, ap, ◌∙◌}
-use mathlib.Core.Bool.{Bool, true, false, cond, ◌||◌}
+use mathlib.Core.Bool.{Bool, true, false, cond}
 use mathlib.Core.List.{List, [], ◌∷◌, ◌++◌}
-use Prim.Native.Nat.{ℕ, ◌+◌, ◌-◌, ◌%◌, ◌≤◌, ◌<◌}
+use Prim.Native.Nat.{ℕ, ◌+◌, ◌-◌, ◌≤◌, ◌<◌}
 use native.Mathlib.Omega.{arith}
-use lib.Dec.{ltb, eqb}
 use lib.ListN.{length}
-use borrow.Author.Tests.{lt-ltb, le-ltb, ne_eqb}
+use borrow.Author.Tests.{lt-ltb, le-ltb}
 use Rattle.wire.specs.Parts.{splice}
 use Rattle.wire.specs.Numbers.{big_bytes}
 use Rattle.wire.proofs.Parts.{puts}
 use Rattle.wire.proofs.Numbers.{length_big}
-use Rattle.blocks.specs.declared.After.{After}
-use Rattle.blocks.specs.declared.After.TheVariants.{Nothing, Any, Some, Pairs, Ip}
 use Rattle.blocks.specs.declared.Part.{Part}
-use Rattle.blocks.specs.declared.Extent.TheVariants as End
-use Rattle.blocks.specs.declared.Written.{Written}
-use Rattle.blocks.specs.declared.Written.TheVariants as Wrote
+use Rattle.blocks.specs.Outcomes as End
 use Rattle.blocks.specs.Layout.{sum, fields_at, field_bytes, eight}
-use Rattle.blocks.specs.Table.{widths, after_fields, field_length, carries, allowed}
-use Rattle.blocks.specs.Packed.{digit}
+use Rattle.blocks.specs.Table.{widths, after_fields, field_length, carries}
 use Rattle.blocks.specs.Extent.{extent_at}
 use Rattle.blocks.specs.Reading.{block_read, bytes_after, reading, read_at}
 use Rattle.blocks.specs.Writing.{carried_bytes, size_of, block_bytes, is_proper, writing, stored, room_after}
 use Rattle.blocks.proofs.Laws.{length_bytes}
-
--- ---- whether so many bytes may follow, by the digit of what follows
-
-unfoldable pub allowed_by : ℕ → ℕ → Bool
-allowed_by n d = cond (eqb d 0) true (cond (eqb d 1) true (cond (eqb d 2) (ltb 0 n) (cond (eqb d 3) (eqb (n % 2) 0) (eqb n 4 || eqb n 16))))
-
-pub allowed_by_lem : (kind n : ℕ) {d : ℕ} → d ≡ digit (after_fields kind) → allowed_by n d ≡ allowed (after_fields kind) n
-unfolding allowed_by
-allowed_by_lem kind n e = ap (allowed_by n) e ∙ go (after_fields kind)
-  where
-    go : (a : After) → allowed_by n (digit a) ≡ allowed a n
-    go Nothing = refl
-    go Any = refl
-    go Some = refl
-    go Pairs = refl
-    go Ip = refl
-
-pub allowed_else : {A : Type 0} (n : ℕ) {d : ℕ} → (((A × (d ≡ 0 → ⊥)) × (d ≡ 1 → ⊥)) × (d ≡ 2 → ⊥)) × (d ≡ 3 → ⊥) → (eqb n 4 || eqb n 16) ≡ allowed_by n d
-unfolding allowed_by
-allowed_else n {d} r = sym (rw (ne_eqb d 0 r.0.0.0.1, ne_eqb d 1 r.0.0.1, ne_eqb d 2 r.0.1, ne_eqb d 3 r.1) refl)
 
 -- ---- a block's size and the bytes after its fields
 
@@ -80,24 +55,24 @@ module _ (kind : ℕ) (fields body room : List ℕ) where
   -- ---- the answers
 
   -- an answer, and the room that goes with it
-  pub answers : {w : Written} {m : List ℕ} → writing kind fields body (length room) ≡ w → m ≡ stored w kind fields body room → (w ≡ writing kind fields body (length room)) × (m ≡ room_after kind fields body room)
+  pub answers : {w : Result ℕ ℕ} {m : List ℕ} → writing kind fields body (length room) ≡ w → m ≡ stored w kind fields body room → (w ≡ writing kind fields body (length room)) × (m ≡ room_after kind fields body room)
   unfolding room_after
-  answers e q = (sym e, q ∙ sym (ap (λ (z : Written). stored z kind fields body room) e))
+  answers e q = (sym e, q ∙ sym (ap (λ (z : Result ℕ ℕ). stored z kind fields body room) e))
 
-  pub is_32 : is_proper kind fields (length body) ≡ false → writing kind fields body (length room) ≡ Wrote.Refused 32
+  pub is_32 : is_proper kind fields (length body) ≡ false → writing kind fields body (length room) ≡ Err 32
   unfolding writing
   is_32 h = rw h
 
   module _ (proper : is_proper kind fields (length body) ≡ true) where
-    pub is_31 : 65535 < size_of kind body → writing kind fields body (length room) ≡ Wrote.Refused 31
+    pub is_31 : 65535 < size_of kind body → writing kind fields body (length room) ≡ Err 31
     unfolding writing
     is_31 g = rw (proper, lt-ltb 65535 (size_of kind body) g)
 
-    pub is_30 : size_of kind body ≤ 65535 → length room < 3 + size_of kind body → writing kind fields body (length room) ≡ Wrote.Refused 30
+    pub is_30 : size_of kind body ≤ 65535 → length room < 3 + size_of kind body → writing kind fields body (length room) ≡ Err 30
     unfolding writing
     is_30 g f = rw (proper, le-ltb 65535 (size_of kind body) g, lt-ltb (length room) (3 + size_of kind body) f)
 
-    pub is_length : size_of kind body ≤ 65535 → 3 + size_of kind body ≤ length room → writing kind fields body (length room) ≡ Wrote.Length (3 + size_of kind body)
+    pub is_length : size_of kind body ≤ 65535 → 3 + size_of kind body ≤ length room → writing kind fields body (length room) ≡ Ok (3 + size_of kind body)
     unfolding writing
     is_length g f = rw (proper, le-ltb 65535 (size_of kind body) g, le-ltb (length room) (3 + size_of kind body) f)
 

@@ -1,4 +1,5 @@
 -- Blocks that carry bytes, written and read back; of these the Ack and the fragments, by the names of their fields. Assumes nothing.
+use Rattle.std.specs.Prelude.{Ok}
 use mathlib.Core.Path.{◌≡◌, refl, sym, ap, ◌∙◌}
 use mathlib.Core.Bool.{Bool, true, false, cond, ◌||◌}
 use mathlib.Core.Logic.{⊎_elim}
@@ -11,7 +12,6 @@ use borrow.Author.Tests.{leb-true, eq-eqb, lt-ltb}
 use Rattle.wire.proofs.Tests.{and_both, or_either}
 use Rattle.wire.specs.Parts.{part}
 use Rattle.blocks.specs.declared.Part.{Part}
-use Rattle.blocks.specs.declared.Written.TheVariants as Wrote
 use Rattle.blocks.specs.Layout.{sum, fits, eight}
 use Rattle.blocks.specs.Table.{look, widths, after_fields, typed, field_length, carries}
 use Rattle.blocks.specs.Names.{message_fields, follow_on_fields, ack_fields}
@@ -39,11 +39,11 @@ module _ (kind : ℕ) (fields body room : List ℕ) (c : carries (after_fields k
       rw (c, n)
 
   carried_written : is_proper kind fields (length body) ≡ true → field_length kind + length body ≤ 65535 → 3 + (field_length kind + length body) ≤ length room
-      → writing kind fields body (length room) ≡ Wrote.Length (3 + (field_length kind + length body))
+      → writing kind fields body (length room) ≡ Ok (3 + (field_length kind + length body))
   carried_written p small big =
-      is_length kind fields body room p (omega (arith, size)) (omega (arith, size)) ∙ ap (λ (n : ℕ). Wrote.Length (3 + n)) size
+      is_length kind fields body room p (omega (arith, size)) (omega (arith, size)) ∙ ap (λ (n : ℕ). Ok (3 + n)) size
 
-  carried_read : (n : ℕ) → kind < 256 → writing kind fields body (length room) ≡ Wrote.Length n
+  carried_read : (n : ℕ) → kind < 256 → writing kind fields body (length room) ≡ Ok n
       → (read_at (room_after kind fields body room) 0 ≡ block_read kind (field_length kind + length body) n (own_fields kind fields) (bytes_at (3 + field_length kind) (length body)))
       × (part (room_after kind fields body room) (3 + field_length kind) (length body) ≡ body)
   carried_read n h w =
@@ -68,13 +68,13 @@ ack_size body = refl
 
 module _ (t n : ℕ) (body room : List ℕ) where
   pub ack_written : fits (widths 12) (ack_fields t n) ≡ true → length body % 2 ≡ 0 → length body ≤ 254 → 8 + length body ≤ length room
-      → writing 12 (ack_fields t n) body (length room) ≡ Wrote.Length (8 + length body)
+      → writing 12 (ack_fields t n) body (length room) ≡ Ok (8 + length body)
   unfolding field_length widths after_fields look sum
   ack_written h even few big =
       let e : 3 + (5 + length body) ≡ 8 + length body = omega arith in
-      carried_written 12 (ack_fields t n) body room refl (ack_proper (ack_fields t n) body h even) (omega arith) (omega arith) ∙ ap Wrote.Length e
+      carried_written 12 (ack_fields t n) body room refl (ack_proper (ack_fields t n) body h even) (omega arith) (omega arith) ∙ ap Ok e
 
-  pub ack_read : (m : ℕ) → writing 12 (ack_fields t n) body (length room) ≡ Wrote.Length m
+  pub ack_read : (m : ℕ) → writing 12 (ack_fields t n) body (length room) ≡ Ok m
       → (read_at (room_after 12 (ack_fields t n) body room) 0 ≡ block_read 12 (5 + length body) m (ack_fields t n) (bytes_at 8 (length body)))
       × (part (room_after 12 (ack_fields t n) body room) 8 (length body) ≡ body)
   unfolding own_fields eight field_length widths after_fields look sum

@@ -10,8 +10,8 @@ use borrow.Author.Tests.{ltb-true, eqb-true, eqb-false}
 use Rattle.wire.specs.Numbers.{Bytes, big_at}
 use Rattle.wire.proofs.Numbers.{big_at_lt}
 use Rattle.wire.proofs.Tests.{and_both}
-use Rattle.blocks.specs.declared.Extent.TheVariants as End
-use Rattle.blocks.specs.declared.Read.{Read}
+use Rattle.blocks.specs.Outcomes as End
+use Rattle.blocks.specs.Outcomes.{Read}
 use Rattle.blocks.specs.Layout.{sum, fields_at, fits, eight}
 use Rattle.blocks.specs.Table.{look, widths, field_length}
 use Rattle.blocks.specs.Extent.{extent_at}

@@ -5,8 +5,8 @@ use mathlib.Core.List.{List}
 use Prim.Native.Nat.{ℕ, ◌+◌}
 use native.Mathlib.Omega.{arith}
 use Rattle.wire.specs.Numbers.{Bytes}
-use Rattle.blocks.specs.declared.Extent.{Extent}
-use Rattle.blocks.specs.declared.Extent.TheVariants as End
+use Rattle.blocks.specs.Outcomes.{Extent}
+use Rattle.blocks.specs.Outcomes as End
 use Rattle.blocks.specs.Layout.{fields_at, fits, eight}
 use Rattle.blocks.specs.Table.{widths, field_length}
 use Rattle.blocks.specs.Extent.{extent_at}

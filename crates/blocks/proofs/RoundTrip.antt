@@ -1,4 +1,5 @@
 -- The round trips, each for every type at once: a block that was written, read where it stands, is that block; one that was read, written with its fields and the bytes that it shows, is the same bytes again. Assumes nothing.
+use Rattle.std.specs.Prelude.{Result, Ok, Err}
 use mathlib.Core.Path.{◌≡◌, refl, sym, ap, ◌∙◌, subst}
 use mathlib.Core.Bool.{Bool, true, false, cond, not, ◌&&◌, ◌||◌, false≢true}
 use mathlib.Core.List.{List, [], ◌∷◌, ◌++◌, append_assoc, append-nil}
@@ -14,14 +15,11 @@ use Rattle.wire.proofs.Parts.{part_middle, length_splice, splice_pieces, length_
 use Rattle.wire.proofs.Numbers.{length_big, big_at_back, big_at_again, big_at_lt}
 use Rattle.blocks.specs.declared.After.{After}
 use Rattle.blocks.specs.declared.After.TheVariants.{Nothing, Any, Some, Pairs, Ip}
-use Rattle.blocks.specs.declared.Extent.TheVariants as End
-use Rattle.blocks.specs.declared.Taken.TheVariants as Take
-use Rattle.blocks.specs.declared.Written.TheVariants as Wrote
-use Rattle.blocks.specs.declared.Read.{Read}
-use Rattle.blocks.specs.declared.Written.{Written}
+use Rattle.blocks.specs.Outcomes as End
+use Rattle.blocks.specs.Outcomes.{Read}
 use Rattle.blocks.specs.Layout.{sum, fields_at, field_bytes, fits, eight}
 use Rattle.blocks.specs.Table.{look, widths, after_fields, typed, field_length, carries, allowed}
-use Rattle.blocks.specs.Extent.{is_i2np_type, taken_at, kind_at, size_at, extent_at}
+use Rattle.blocks.specs.Extent.{is_i2np_type, kind_at, size_at, extent_at}
 use Rattle.blocks.specs.Reading.{bytes_after, block_read, read_at, bytes_at, reading}
 use Rattle.blocks.specs.Writing.{carried_bytes, size_of, block_bytes, is_proper, writing, room_after, stored}
 use Rattle.blocks.specs.Claims.{own_fields, WriteThenRead, shown_bytes, ReadThenWrite}
@@ -90,12 +88,12 @@ module _ (kind : ℕ) (fields body room : List ℕ) where
   abbrev z : ℕ
   z = size_of kind body
 
-  pub taken_by : (n : ℕ) → writing kind fields body (length room) ≡ Wrote.Length n → (is_proper kind fields (length body) ≡ true) × (size_of kind body ≤ 65535) × (3 + size_of kind body ≤ length room) × (n ≡ 3 + size_of kind body)
+  pub taken_by : (n : ℕ) → writing kind fields body (length room) ≡ Ok n → (is_proper kind fields (length body) ≡ true) × (size_of kind body ≤ 65535) × (3 + size_of kind body ≤ length room) × (n ≡ 3 + size_of kind body)
   unfolding writing
   taken_by n e = go (is_proper kind fields (length body)) (ltb 65535 (size_of kind body)) (ltb (length room) (3 + size_of kind body)) refl refl refl e
     where
       go : (x y t : Bool) → is_proper kind fields (length body) ≡ x → ltb 65535 (size_of kind body) ≡ y → ltb (length room) (3 + size_of kind body) ≡ t
-          → cond x (cond y (Wrote.Refused 31) (cond t (Wrote.Refused 30) (Wrote.Length (3 + size_of kind body)))) (Wrote.Refused 32) ≡ Wrote.Length n
+          → cond {A = Result ℕ ℕ} x (cond y (Err 31) (cond t (Err 30) (Ok (3 + size_of kind body)))) (Err 32) ≡ Ok n
           → (is_proper kind fields (length body) ≡ true) × (size_of kind body ≤ 65535) × (3 + size_of kind body ≤ length room) × (n ≡ 3 + size_of kind body)
       go true false false p q r f = let o : 3 + size_of kind body ≡ n = cc in (p, ltb-false 65535 (size_of kind body) q, ltb-false (length room) (3 + size_of kind body) r, sym o)
       go true true t p q r f = let o : ◌≡◌ {A = ℕ} 0 1 = cc in absurd (omega arith)
@@ -180,8 +178,7 @@ module _ (kind : ℕ) (fields body room : List ℕ) where
 
     has_extent : extent_at w 0 ≡ End.Ends kind z (3 + z)
     has_extent =
-        sym (ended w 0 z (Take.Bytes z) (omega (arith, long)) (sym has_size) (ap (λ (k : ℕ). taken_at w 3 k z) has_kind ∙ fine w 3 (length (carried_bytes kind body)) z kind is_fine))
-        ∙ ap (λ (k : ℕ). End.Ends k z (3 + z)) has_kind
+        sym (ended w 0 (record { kind = kind; size = z }) (Ok z) (record { there = omega (arith, long); is_kind = sym has_kind; is_size = sym has_size }) (fine w 3 (length (carried_bytes kind body)) z kind is_fine))
 
     reads : read_at w 0 ≡ block_read kind z (3 + z) (own_fields kind fields) (bytes_after kind 3 z)
     unfolding own_fields
@@ -280,13 +277,13 @@ module _ (s : List ℕ) (bytes : Bytes s) (at kind size next : ℕ) (e : extent_
   is_proper_lem m = rw (fields_fit_there s at kind size next bytes e, m) (same_test s F (at + 3) kind first_read ∙ is_good.1)
 
   again : (room : List ℕ) → size ≡ size_of kind Y → next - at ≤ length room
-      → (writing kind F Y (length room) ≡ Wrote.Length (next - at)) × (room_after kind F Y room ≡ splice room 0 (part s at (next - at)))
+      → (writing kind F Y (length room) ≡ Ok (next - at)) × (room_after kind F Y room ≡ splice room 0 (part s at (next - at)))
   unfolding room_after block_bytes
   again room q roomy =
       let x = same q in
       let small : size < 65536 = subst (λ (i : ℕ). i < 65536) d.is_size (big_at_lt 2 s (at + 1) (omega (arith, d.fields, d.inside)) bytes) in
       let long : 3 + size_of kind Y ≡ next - at = omega (arith, x.is_size, d.fields) in
-      let a : writing kind F Y (length room) ≡ Wrote.Length (3 + size_of kind Y) = is_length kind F Y room (is_proper_lem x.may) (omega (arith, q)) (omega arith) in
+      let a : writing kind F Y (length room) ≡ Ok (3 + size_of kind Y) = is_length kind F Y room (is_proper_lem x.may) (omega (arith, q)) (omega arith) in
       let B = field_bytes (widths kind) F in
       let all : (kind ∷ []) ++ big_bytes 2 (size_of kind Y) ++ B ++ carried_bytes kind Y ≡ part s at (next - at) =
       ap (λ (l : List ℕ). kind ∷ l) (append_assoc (big_bytes 2 (size_of kind Y)) B (carried_bytes kind Y))
@@ -297,7 +294,7 @@ module _ (s : List ℕ) (bytes : Bytes s) (at kind size next : ℕ) (e : extent_
       ∙ ap (λ (l : List ℕ). get_or s at 0 ∷ l) (part_join s (at + 1) 2 (at + 3) n (2 + n) (omega arith) refl)
       ∙ part_first s at (at + 1) (2 + n) (next - at) 0 (omega (arith, d.fields, d.inside)) refl (omega (arith, d.fields))
       in
-      (a ∙ ap Wrote.Length long, ap (λ (v : Written). stored v kind F Y room) a ∙ ap (splice room 0) all)
+      (a ∙ ap Ok long, ap (λ (v : Result ℕ ℕ). stored v kind F Y room) a ∙ ap (splice room 0) all)
 
 pub read_then_write : ReadThenWrite
 unfolding read_at
@@ -305,5 +302,5 @@ read_then_write s room at kind size next b e q fits =
     let x : extent_at s at ≡ End.Ends kind size next = sym (read_extent s at) ∙ e in
     let r : read_at s at ≡ reading s at (End.Ends kind size next) = ap (reading s at) x in
     subst
-    (λ (v : Read). size ≡ size_of kind (shown_bytes s v) → (writing kind v.fields (shown_bytes s v) (length room) ≡ Wrote.Length (next - at)) × (room_after kind v.fields (shown_bytes s v) room ≡ splice room 0 (part s at (next - at))))
+    (λ (v : Read). size ≡ size_of kind (shown_bytes s v) → (writing kind v.fields (shown_bytes s v) (length room) ≡ Ok (next - at)) × (room_after kind v.fields (shown_bytes s v) room ≡ splice room 0 (part s at (next - at))))
     (sym r) (λ z. again s b at kind size next x room z fits) q

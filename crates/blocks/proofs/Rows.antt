@@ -1,6 +1,6 @@
 -- Rules of the table, each by one computation over its 256 types; digits as widths, and numbers of such a width. Assumes nothing.
 use mathlib.Core.Path.{◌≡◌, refl, sym, ap, ◌∙◌}
-use mathlib.Core.Bool.{Bool, true, false, cond, not, ◌||◌}
+use mathlib.Core.Bool.{Bool, true, false, cond, ◌||◌}
 use mathlib.Core.List.{List, [], ◌∷◌}
 use Prim.Native.Nat.{ℕ, ◌+◌, ◌/◌, ◌%◌, ◌^◌, ◌≤◌, ◌<◌}
 use native.Mathlib.Omega.{arith}
@@ -17,7 +17,7 @@ use Rattle.wire.proofs.Same.{same_eq}
 use Rattle.blocks.specs.declared.After.{After}
 use Rattle.blocks.specs.declared.After.TheVariants.{Nothing, Any, Some, Pairs, Ip}
 use Rattle.blocks.specs.Layout.{sum, eight}
-use Rattle.blocks.specs.Table.{look, widths, after_fields, typed, field_length, carries}
+use Rattle.blocks.specs.Table.{look, widths, after_fields, typed, field_length}
 use Rattle.blocks.specs.Packed.{digit, packed, row_number, width_of, unpacked}
 use Rattle.blocks.proofs.Tables.{at}
 
@@ -45,12 +45,20 @@ row_right k h =
     as_bit x true e = e
     as_bit x false e = ap (λ (y : ℕ). eqb y 1) (eqb-true x 0 e)
 
-pub carries_digit : (a : After) → not (eqb (digit a) 0) ≡ carries a
-carries_digit Nothing = refl
-carries_digit Any = refl
-carries_digit Some = refl
-carries_digit Pairs = refl
-carries_digit Ip = refl
+-- what a digit says follows
+unfoldable pub after_by : ℕ → After
+after_by d = cond (eqb d 0) Nothing (cond (eqb d 1) Any (cond (eqb d 2) Some (cond (eqb d 3) Pairs Ip)))
+
+pub after_digit : (k : ℕ) → k < 256 → after_by (row_number k / 4294967296 % 8) ≡ after_fields k
+unfolding after_by
+after_digit k h = ap after_by (row_right k h).is_after ∙ go (after_fields k)
+  where
+    go : (a : After) → after_by (digit a) ≡ a
+    go Nothing = refl
+    go Any = refl
+    go Some = refl
+    go Pairs = refl
+    go Ip = refl
 
 -- ---- the types that are not bytes alone
 

@@ -1,4 +1,5 @@
 -- What `taken_at` says, by one walk over its cases: the bytes that a body takes are as many as a sound one's, hold its type's fields and are there, and it is sound; a refusal has one of 01's numbers, and a sound body whose bytes are there has none. Assumes nothing.
+use Rattle.std.specs.Prelude.{Result, Ok, Err}
 use mathlib.Core.Path.{◌≡◌, refl, sym, ◌∙◌, subst}
 use mathlib.Core.Bool.{Bool, true, false, cond, ◌&&◌, ◌||◌, false≢true}
 use mathlib.Core.List.{List, [], ◌∷◌}
@@ -11,8 +12,6 @@ use borrow.Author.Tests.{ltb-true, ltb-false, leb-true, leb-false, eqb-true, lt-
 use mir.Val.{has_key}
 use types.Run.{OneOf, hit}
 use Rattle.wire.proofs.Tests.{and_both, or_either}
-use Rattle.blocks.specs.declared.Taken.{Taken}
-use Rattle.blocks.specs.declared.Taken.TheVariants as Take
 use Rattle.blocks.specs.Layout.{sum}
 use Rattle.blocks.specs.Table.{look, widths, after_fields, field_length}
 use Rattle.blocks.specs.Extent.{is_i2np_type, takes_bytes, router_info, i2np, first_fragment, follow_on, address, ignores_size, plain_length, taken_at}
@@ -25,11 +24,11 @@ abbrev pub unread : List ℕ
 unread = 1 ∷ 2 ∷ 3 ∷ 4 ∷ 5 ∷ 6 ∷ 7 ∷ 8 ∷ 9 ∷ []
 
 -- what is known of an answer, where so many bytes are there: it takes what a sound body needs, fields and all, of a sound one; or it refuses with one of 01's numbers what is not sound or not there
-data Says (left fields need : ℕ) (good : Bool) : Taken → Type 0 where
-  takes : fields ≤ need → need ≤ left → good ≡ true → Says left fields need good (Take.Bytes need)
-  refuses : {m : ℕ} → T (has_key unread m) → (need ≤ left → good ≡ true → ⊥) → Says left fields need good (Take.Refused m)
+data Says (left fields need : ℕ) (good : Bool) : Result ℕ ℕ → Type 0 where
+  takes : fields ≤ need → need ≤ left → good ≡ true → Says left fields need good (Ok need)
+  refuses : {m : ℕ} → T (has_key unread m) → (need ≤ left → good ≡ true → ⊥) → Says left fields need good (Err m)
 
-if : {left fields need : ℕ} {good : Bool} (b : Bool) {x y : Taken} → (b ≡ true → Says left fields need good x) → (b ≡ false → Says left fields need good y) → Says left fields need good (cond b x y)
+if : {left fields need : ℕ} {good : Bool} (b : Bool) {x y : Result ℕ ℕ} → (b ≡ true → Says left fields need good x) → (b ≡ false → Says left fields need good y) → Says left fields need good (cond b x y)
 if true p q = p refl
 if false p q = q refl
 
@@ -42,7 +41,7 @@ unfolding sound tested
 plain_sound s body k z p = rw (apart k 2 p refl, apart k 3 p refl, apart k 4 p refl, apart k 5 p refl, apart k 13 p refl)
 
 -- by the length that a type's body has
-long : {left fields m n : ℕ} {good : Bool} {t : Taken} → m ≡ n → Says left fields n good t → Says left fields m good t
+long : {left fields m n : ℕ} {good : Bool} {t : Result ℕ ℕ} → m ≡ n → Says left fields n good t → Says left fields m good t
 long {left} {fields} {m} {n} {good} {t} e p = subst (λ (i : ℕ). Says left fields i good t) (sym e) p
 
 module _ (s : List ℕ) (body z : ℕ) where
@@ -102,23 +101,23 @@ module _ (s : List ℕ) (body z : ℕ) where
       of_plain
 
   -- the bytes that a body takes, and its tests
-  pub taken_holds : (k n : ℕ) → taken_at s body k z ≡ Take.Bytes n → (n ≡ body_length k z) × (field_length k ≤ n) × (n ≤ length s - body) × (sound s body k z ≡ true)
+  pub taken_holds : (k n : ℕ) → taken_at s body k z ≡ Ok n → (n ≡ body_length k z) × (field_length k ≤ n) × (n ≤ length s - body) × (sound s body k z ≡ true)
   taken_holds k n e = go (subst (Says left (field_length k) (body_length k z) (sound s body k z)) e (known k))
     where
-      go : {f m : ℕ} {g : Bool} → Says left f m g (Take.Bytes n) → (n ≡ m) × (f ≤ n) × (n ≤ left) × (g ≡ true)
+      go : {f m : ℕ} {g : Bool} → Says left f m g (Ok n) → (n ≡ m) × (f ≤ n) × (n ≤ left) × (g ≡ true)
       go (takes h l t) = (refl, h, l, t)
 
   -- the number of a refusal
-  pub refused_holds : (k m : ℕ) → taken_at s body k z ≡ Take.Refused m → OneOf unread m
+  pub refused_holds : (k m : ℕ) → taken_at s body k z ≡ Err m → OneOf unread m
   refused_holds k m e = go (subst (Says left (field_length k) (body_length k z) (sound s body k z)) e (known k))
     where
-      go : {f n : ℕ} {g : Bool} → Says left f n g (Take.Refused m) → OneOf unread m
+      go : {f n : ℕ} {g : Bool} → Says left f n g (Err m) → OneOf unread m
       go (refuses h _) = hit unread m h
 
   -- a body whose bytes are there and that passes its tests is taken
-  pub sound_taken : (k : ℕ) → body_length k z ≤ length s - body → sound s body k z ≡ true → taken_at s body k z ≡ Take.Bytes (body_length k z)
+  pub sound_taken : (k : ℕ) → body_length k z ≤ length s - body → sound s body k z ≡ true → taken_at s body k z ≡ Ok (body_length k z)
   sound_taken k h e = go (known k)
     where
-      go : {f : ℕ} {t : Taken} → Says left f (body_length k z) (sound s body k z) t → t ≡ Take.Bytes (body_length k z)
+      go : {f : ℕ} {t : Result ℕ ℕ} → Says left f (body_length k z) (sound s body k z) t → t ≡ Ok (body_length k z)
       go (takes _ _ _) = refl
       go (refuses _ not) = absurd (not h e)

@@ -1,4 +1,5 @@
 -- What `taken_at` says of a row: a body that was taken may be written, and one that may be written is taken. Assumes nothing.
+use Rattle.std.specs.Prelude.{Ok}
 use mathlib.Core.Path.{◌≡◌, refl, sym, ap, ◌∙◌, subst}
 use mathlib.Core.Bool.{Bool, true, false, cond, ◌&&◌, ◌||◌}
 use mathlib.Core.List.{List}
@@ -9,7 +10,6 @@ use lib.Dec.{leb, eqb}
 use lib.ListN.{length, get_or}
 use borrow.Author.Tests.{ltb-true, leb-true, eqb-true, lt-ltb, le-leb, eq-eqb, not-true}
 use Rattle.wire.proofs.Tests.{and_both, or_either, or_neither}
-use Rattle.blocks.specs.declared.Taken.TheVariants as Take
 use Rattle.blocks.specs.Layout.{sum}
 use Rattle.blocks.specs.Table.{look, widths, after_fields, typed, field_length, carries, allowed}
 use Rattle.blocks.specs.Extent.{is_i2np_type, at_least, pair_bytes_in, ignores_size, plain_length, taken_at}
@@ -54,7 +54,7 @@ module _ (s : List ℕ) (o z : ℕ) where
       (λ _ e t. (⊎_elim (λ q. rw (e ∙ from_none z ∙ eqb-true z 6 q)) (λ q. rw (e ∙ from_none z ∙ eqb-true z 18 q)) (or_either (eqb z 6) (eqb z 18) t), refl))
       (λ k p h _ _. others n k p h)
 
-  pub taken_good : (k n : ℕ) → k < 256 → taken_at s o k z ≡ Take.Bytes n → Good k n
+  pub taken_good : (k n : ℕ) → k < 256 → taken_at s o k z ≡ Ok n → Good k n
   taken_good k n h e = let t = taken_holds s o z k n e in sound_good n k h t.0 t.3
 
 -- ---- what may be written is taken
@@ -98,8 +98,8 @@ fine_sound s o m z =
     (λ f. ⊎_elim (λ q. let n : z ≡ 6 = omega (arith, f.size, eqb-true m 4 q) in rw n) (λ q. let n : z ≡ 18 = omega (arith, f.size, eqb-true m 16 q) in rw n) (or_either (eqb m 4) (eqb m 16) f.may))
     (λ k p _. plain_sound s o k z p)
 
-pub fine : (s : List ℕ) (o m z k : ℕ) → Fine s o k m z → taken_at s o k z ≡ Take.Bytes z
+pub fine : (s : List ℕ) (o m z k : ℕ) → Fine s o k m z → taken_at s o k z ≡ Ok z
 unfolding after_fields look
 fine s o m z k f =
     let e = own_length m z k f.size f.fixed (λ q. eqb-true (m % 2) 0 (subst (λ (j : ℕ). allowed (after_fields j) m ≡ true) q f.may)) in
-    sound_taken s o z k (omega (arith, e, f.inside)) (fine_sound s o m z k f) ∙ ap Take.Bytes e
+    sound_taken s o z k (omega (arith, e, f.inside)) (fine_sound s o m z k f) ∙ ap Ok e

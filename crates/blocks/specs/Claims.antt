@@ -1,10 +1,9 @@
 -- What is shown of reading and writing together, for every type at once.
-use Rattle.std.specs.Prelude.{◌≡◌, cond, List, [], ◌∷◌, ℕ, ◌+◌, ◌-◌, ◌≤◌, ◌<◌, eqb, length, get_or, take}
+use Rattle.std.specs.Prelude.{◌≡◌, cond, List, [], ◌∷◌, ℕ, ◌+◌, ◌-◌, ◌≤◌, ◌<◌, eqb, length, get_or, take, Ok}
 use Rattle.wire.specs.Parts.{part, splice}
 use Rattle.wire.specs.Numbers.{Bytes}
-use Rattle.blocks.specs.declared.Extent.TheVariants as End
-use Rattle.blocks.specs.declared.Read.{Read}
-use Rattle.blocks.specs.declared.Written.TheVariants as Wrote
+use Rattle.blocks.specs.Outcomes as End
+use Rattle.blocks.specs.Outcomes.{Read}
 use Rattle.blocks.specs.Layout.{eight}
 use Rattle.blocks.specs.Table.{widths, field_length}
 use Rattle.blocks.specs.Reading.{bytes_after, block_read, read_at}
@@ -20,7 +19,7 @@ abbrev pub WriteThenRead : Type 0
 WriteThenRead =
     (kind : ℕ) (fields body room : List ℕ) (n : ℕ)
     → kind < 256
-    → writing kind fields body (length room) ≡ Wrote.Length n
+    → writing kind fields body (length room) ≡ Ok n
     → (read_at (room_after kind fields body room) 0 ≡ block_read kind (size_of kind body) n (own_fields kind fields) (bytes_after kind 3 (size_of kind body)))
     × (part (room_after kind fields body room) (3 + field_length kind) (length (carried_bytes kind body)) ≡ carried_bytes kind body)
 
@@ -36,7 +35,7 @@ ReadThenWrite =
     → (read_at s at).extent ≡ End.Ends kind size next
     → size ≡ size_of kind (shown_bytes s (read_at s at))
     → next - at ≤ length room
-    → (writing kind (read_at s at).fields (shown_bytes s (read_at s at)) (length room) ≡ Wrote.Length (next - at))
+    → (writing kind (read_at s at).fields (shown_bytes s (read_at s at)) (length room) ≡ Ok (next - at))
     × (room_after kind (read_at s at).fields (shown_bytes s (read_at s at)) room ≡ splice room 0 (part s at (next - at)))
 
 -- eight numbers as reading gives them: 0 for what a type does not have, and 1 for a mark that is set
@@ -48,7 +47,7 @@ abbrev pub NumbersBack : Type 0
 NumbersBack =
     (kind : ℕ) (v body room out : List ℕ) (n : ℕ)
     → kind < 256
-    → writing_by kind v body (length room) ≡ Wrote.Length n
+    → writing_by kind v body (length room) ≡ Ok n
     → read_numbers (read_at (room_by kind v body room) 0) out
     ≡ kind ∷ size_of kind body ∷ (bytes_after kind 3 (size_of kind body)).start ∷ (bytes_after kind 3 (size_of kind body)).len ∷ numbers_back kind v
 

@@ -3,6 +3,7 @@ pub mod Layout
 pub mod Table
 pub mod Packed
 pub mod Names
+pub mod Outcomes
 pub mod Extent
 pub mod Sound
 pub mod Reading

@@ -1,10 +1,9 @@
 -- Blocks as the C calls pass them: type, size field, start and length of the bytes, then eight numbers. They are the fields, but a follow-on's first byte is two numbers: its number and the mark of the last.
-use Rattle.std.specs.Prelude.{cond, not, List, [], ◌∷◌, ℕ, min, eqb, get_or}
+use Rattle.std.specs.Prelude.{cond, not, List, [], ◌∷◌, ℕ, min, eqb, get_or, Result}
 use Rattle.blocks.specs.declared.Part.{Part}
-use Rattle.blocks.specs.declared.Extent.{Extent}
-use Rattle.blocks.specs.declared.Extent.TheVariants as End
-use Rattle.blocks.specs.declared.Read.{Read}
-use Rattle.blocks.specs.declared.Written.{Written}
+use Rattle.blocks.specs.Outcomes.{Extent}
+use Rattle.blocks.specs.Outcomes as End
+use Rattle.blocks.specs.Outcomes.{Read}
 use Rattle.blocks.specs.Layout.{eight}
 use Rattle.blocks.specs.Names.{follow_on_fields, follow_on_number, follow_on_last, follow_on_id}
 use Rattle.blocks.specs.Writing.{writing, room_after}
@@ -27,7 +26,7 @@ abbrev pub read_numbers : Read → List ℕ → List ℕ
 read_numbers r out = block_numbers r.extent r.fields r.bytes out
 
 -- what writing a block by its numbers answers
-unfoldable pub writing_by : ℕ → List ℕ → List ℕ → ℕ → Written
+unfoldable pub writing_by : ℕ → List ℕ → List ℕ → ℕ → Result ℕ ℕ
 writing_by kind v bytes room = writing kind (as_fields kind v) bytes room
 
 -- and the room afterwards

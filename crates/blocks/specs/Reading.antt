@@ -1,9 +1,12 @@
 -- Reading one block, by its row: its fields as numbers, its bytes as a part of the payload.
-use Rattle.std.specs.Prelude.{cond, List, [], ℕ, ◌+◌, ◌-◌}
+use Rattle.std.specs.Prelude.{cond, List, [], ℕ, ◌+◌, ◌-◌, Result, Ok, Err}
+use Rattle.refusals.specs.Numbers.{number}
 use Rattle.blocks.specs.declared.Part.{Part}
-use Rattle.blocks.specs.declared.Extent.{Extent}
-use Rattle.blocks.specs.declared.Extent.TheVariants as End
-use Rattle.blocks.specs.declared.Read.{Read}
+use Rattle.blocks.specs.Outcomes.{Extent}
+use Rattle.blocks.specs.Outcomes as End
+use Rattle.blocks.specs.Outcomes.{Read}
+use Rattle.blocks.specs.declared.Block.{Block}
+use Rattle.blocks.specs.declared.RefusedAt.{RefusedAt}
 use Rattle.blocks.specs.Layout.{fields_at, eight}
 use Rattle.blocks.specs.Table.{widths, after_fields, field_length, carries}
 use Rattle.blocks.specs.Extent.{extent_at}
@@ -19,6 +22,11 @@ block_read kind size next fields bytes = record { extent = End.Ends kind size ne
 -- or a refusal, at the block's type byte
 abbrev pub read_refused : ℕ → ℕ → Read
 read_refused number place = record { extent = End.Refused number place; fields = eight []; bytes = bytes_at 0 0 }
+
+-- what the code answers of a block
+abbrev pub read_as : Result Block RefusedAt → Read
+read_as (Ok b) = block_read b.kind b.size b.next b.fields b.bytes
+read_as (Err r) = read_refused (number r.refusal) r.place
 
 -- of a body of n bytes at a place, those after its fields; none where none follow
 unfoldable pub bytes_after : ℕ → ℕ → ℕ → Part

@@ -1,13 +1,17 @@
 // SSU2 blocks: the table of their bodies, and what came of reading and writing them. No code: the definitions and their laws, for the crates that read and write.
 #![tactic(auto)]
 
+use refusals::Refusal;
+
 // Bytes of the payload: where they start, and how many they are.
-#[derive(Clone, Copy)]
+// Not a slice: C is told place and length, and the definitions speak of them.
+#[derive(Clone, Copy, Debug, PartialEq, Eq)]
 pub struct Part {
     pub start: usize,
     pub len: usize,
 }
 
+// A type is a number: each of the 256 is a block that is read and listed, so no enum holds them; those that a caller asks for have names.
 // Types that a caller asks for by name.
 pub const I2NP: u8 = 3;
 
@@ -33,7 +37,7 @@ pub const ACK_THROUGH: usize = 0;
 pub const ACK_COUNT: usize = 1;
 
 // What follows the fields of a body.
-#[derive(Clone, Copy)]
+#[derive(Clone, Copy, Debug, PartialEq, Eq)]
 pub enum After {
     // Nothing.
     Nothing,
@@ -47,31 +51,34 @@ pub enum After {
     Ip,
 }
 
-// Where a block ends: its type, its size field as it stands and the place after it; or a refusal, at the block's type byte.
-#[derive(Clone, Copy)]
-pub enum Extent {
-    Ends { kind: u8, size: u16, next: usize },
-    Refused { number: u32, place: usize },
+// A block's first three bytes: its type and its size field as it stands.
+#[derive(Clone, Copy, Debug, PartialEq, Eq)]
+pub struct Head {
+    pub kind: u8,
+    pub size: u16,
 }
 
-// What reading a block gives: where it ends, or its refusal; its fields in 01's order, 0 where a type has fewer than eight; the bytes after them.
-#[derive(Clone, Copy)]
-pub struct Read {
-    pub extent: Extent,
+// Where a block ends: its type, its size field as it stands and the place after it.
+#[derive(Clone, Copy, Debug, PartialEq, Eq)]
+pub struct End {
+    pub kind: u8,
+    pub size: u16,
+    pub next: usize,
+}
+
+// A block that was read: where it ends; its fields in 01's order, 0 where a type has fewer than eight; the bytes after them.
+#[derive(Clone, Copy, Debug, PartialEq, Eq)]
+pub struct Block {
+    pub kind: u8,
+    pub size: u16,
+    pub next: usize,
     pub fields: [u64; 8],
     pub bytes: Part,
 }
 
-// How many bytes of a payload a body takes, or why it cannot.
-#[derive(Clone, Copy)]
-pub enum Taken {
-    Bytes { count: usize },
-    Refused { number: u32 },
-}
-
-// What came of writing a block: its length, or the number of the refusal.
-#[derive(Clone, Copy)]
-pub enum Written {
-    Length { count: usize },
-    Refused { number: u32 },
+// Why a block was not read, and the place of its type byte.
+#[derive(Clone, Copy, Debug, PartialEq, Eq)]
+pub struct RefusedAt {
+    pub refusal: Refusal,
+    pub place: usize,
 }

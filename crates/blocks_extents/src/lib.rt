@@ -2,15 +2,17 @@
 #![tactic(auto)]
 
 ghost use Rattle.std.specs.Prelude.{◌≡◌, ◌+◌, ◌<◌, ◌≤◌, length};
-ghost use Rattle.blocks.specs.Packed.{row_number};
-ghost use Rattle.blocks.specs.Extent.{is_i2np_type, at_least, pair_bytes_in, takes_bytes, router_info, i2np, first_fragment, follow_on, address, ignores_size, plain_length, taken_at, extent_at};
+ghost use Rattle.refusals.specs.Numbers.{numbered};
+ghost use Rattle.blocks.specs.Outcomes.{extent_as};
+ghost use Rattle.blocks.specs.Extent.{is_i2np_type, at_least, pair_bytes_in, takes_bytes, router_info, i2np, first_fragment, follow_on, address, ignores_size, plain_length, taken_at, head_at, extent_at};
 
-use blocks::{Extent, Taken};
-use blocks_rows::{carries_bytes, length_of, row_of};
-use wire::usize_from_u16;
-use wire_numbers::be_u16;
+use blocks::{End, Head, RefusedAt};
+use blocks_rows::Row;
+use refusals::Refusal;
+use wire_numbers::be;
 
 // Whether a number is the type of an I2NP message.
+#[tactic(auto, unfolding(blocks::specs::Extent::is_i2np_type))]
 pub fn is_listed(x: u64) -> bool
     ensures { result ≡ is_i2np_type x }
 {
@@ -18,88 +20,91 @@ pub fn is_listed(x: u64) -> bool
 }
 
 // A body of `need` bytes, if as many are there; else 1.
-fn takes_bytes(need: usize, there: usize) -> Taken
-    ensures { result ≡ takes_bytes need there }
+#[tactic(auto, using(std::proofs::lemmas::Bool::Decides::nat_tests), unfolding(blocks::specs::Extent::takes_bytes))]
+fn takes_bytes(need: usize, there: usize) -> Result<usize, Refusal>
+    ensures { numbered result ≡ takes_bytes need there }
 {
     if need <= there {
-        return Taken::Bytes { count: need };
+        return Ok(need);
     }
-    Taken::Refused { number: 1 }
+    Err(Refusal::EndsInsideBlock)
 }
 
 // Size, but no less than the fields.
 pub fn at_least(fields: usize, size: usize) -> usize
     ensures { result ≡ at_least fields size }
 {
-    if fields <= size {
-        return size;
-    }
-    fields
+    fields.max(size)
 }
 
-fn router_info(size: usize, there: usize) -> Taken
-    ensures { result ≡ router_info size there }
+// Five families, a function each: their tests and refusals stand in 01's order, which differs from one to the next.
+#[tactic(auto, using(std::proofs::lemmas::Bool::Decides::nat_tests), unfolding(blocks::specs::Extent::router_info))]
+fn router_info(size: usize, there: usize) -> Result<usize, Refusal>
+    ensures { numbered result ≡ router_info size there }
 {
     if size <= 2 {
-        return Taken::Refused { number: 2 };
+        return Err(Refusal::RouterInfoSize);
     }
     takes_bytes(size, there)
 }
 
 // The message's type is the first byte of the body.
-fn i2np(payload: &[u8], body: usize, size: usize) -> Taken
+// The payload and a place in it, not the rest of it: the definitions and refusals speak of places in the whole payload.
+fn i2np(payload: &[u8], body: usize, size: usize) -> Result<usize, Refusal>
     requires { body ≤ length payload.now }
-    ensures { result ≡ i2np payload.now body size }
+    ensures { numbered result ≡ i2np payload.now body size }
 {
     let there = payload.len() - body;
     if size < 9 {
-        return Taken::Refused { number: 9 };
+        return Err(Refusal::I2npSize);
     }
     if there < 9 {
-        return Taken::Refused { number: 1 };
+        return Err(Refusal::EndsInsideBlock);
     }
-    if is_listed(payload[body] as u64) {
+    if is_listed(u64::from(payload[body])) {
         return takes_bytes(size, there);
     }
-    Taken::Refused { number: 3 }
+    Err(Refusal::I2npType)
 }
 
-fn first_fragment(payload: &[u8], body: usize, size: usize) -> Taken
+fn first_fragment(payload: &[u8], body: usize, size: usize) -> Result<usize, Refusal>
     requires { body ≤ length payload.now }
-    ensures { result ≡ first_fragment payload.now body size }
+    ensures { numbered result ≡ first_fragment payload.now body size }
 {
     let there = payload.len() - body;
     if there < 9 {
-        return Taken::Refused { number: 1 };
+        return Err(Refusal::EndsInsideBlock);
     }
-    if !is_listed(payload[body] as u64) {
-        return Taken::Refused { number: 3 };
+    if !is_listed(u64::from(payload[body])) {
+        return Err(Refusal::I2npType);
     }
     if size <= 9 {
-        return Taken::Refused { number: 4 };
+        return Err(Refusal::FirstFragmentSize);
     }
     if there < size {
-        return Taken::Refused { number: 5 };
+        return Err(Refusal::FirstFragmentBytes);
     }
-    Taken::Bytes { count: size }
+    Ok(size)
 }
 
-fn follow_on(size: usize, there: usize) -> Taken
-    ensures { result ≡ follow_on size there }
+#[tactic(auto, using(std::proofs::lemmas::Bool::Decides::nat_tests), unfolding(blocks::specs::Extent::follow_on))]
+fn follow_on(size: usize, there: usize) -> Result<usize, Refusal>
+    ensures { numbered result ≡ follow_on size there }
 {
     if there < 5 {
-        return Taken::Refused { number: 1 };
+        return Err(Refusal::EndsInsideBlock);
     }
     if size <= 5 {
-        return Taken::Refused { number: 6 };
+        return Err(Refusal::FollowOnSize);
     }
     if there < size {
-        return Taken::Refused { number: 7 };
+        return Err(Refusal::FollowOnBytes);
     }
-    Taken::Bytes { count: size }
+    Ok(size)
 }
 
 // The bytes of an Ack's pairs: those above five if they are even, else none.
+#[tactic(auto, using(std::proofs::lemmas::Bool::Decides::nat_tests), unfolding(blocks::specs::Extent::pair_bytes_in))]
 fn pair_bytes_in(size: usize) -> usize
     requires { size < 65536 }
     ensures { (result ≡ pair_bytes_in size) × (result < 65536) }
@@ -113,11 +118,12 @@ fn pair_bytes_in(size: usize) -> usize
     0
 }
 
-fn address(size: usize, there: usize) -> Taken
-    ensures { result ≡ address size there }
+#[tactic(auto, using(std::proofs::lemmas::Bool::Decides::nat_tests), unfolding(blocks::specs::Extent::address))]
+fn address(size: usize, there: usize) -> Result<usize, Refusal>
+    ensures { numbered result ≡ address size there }
 {
     if there < 2 {
-        return Taken::Refused { number: 1 };
+        return Err(Refusal::EndsInsideBlock);
     }
     if size == 6 {
         return takes_bytes(6, there);
@@ -125,33 +131,34 @@ fn address(size: usize, there: usize) -> Taken
     if size == 18 {
         return takes_bytes(18, there);
     }
-    Taken::Refused { number: 8 }
+    Err(Refusal::AddressSize)
 }
 
 // Whether a type reads its fields whatever the size says.
-fn ignores_size(kind: u8, row: u64) -> bool
-    requires { row ≡ row_number kind }
-    ensures { result ≡ ignores_size kind }
+fn ignores_size(row: Row) -> bool
+    ensures { result ≡ ignores_size row.kind }
 {
-    !(carries_bytes(kind, row) | ((kind == 1) | (kind == 6)))
+    !(row.carries_bytes() | ((row.kind == 1) | (row.kind == 6)))
 }
 
 // What a body takes that its size alone does not refuse.
 fn plain_length(kind: u8, size: usize) -> usize
     ensures { result ≡ plain_length kind size }
 {
-    let row = row_of(kind);
-    let fields = length_of(kind, row);
-    if ignores_size(kind, row) {
+    let row = Row::of(kind);
+    let fields = row.length();
+    if ignores_size(row) {
         return fields;
     }
     at_least(fields, size)
 }
 
 // The bytes that the body at a place takes.
-fn taken_at(payload: &[u8], body: usize, kind: u8, size: usize) -> Taken
+// Types by their numbers, as 01's table has them: any number is a block's type.
+#[tactic(auto, using(std::proofs::lemmas::Bool::Decides::nat_tests), unfolding(blocks::specs::Extent::taken_at))]
+fn taken_at(payload: &[u8], body: usize, kind: u8, size: usize) -> Result<usize, Refusal>
     requires { (body ≤ length payload.now) × (size < 65536) }
-    ensures { result ≡ taken_at payload.now body kind size }
+    ensures { numbered result ≡ taken_at payload.now body kind size }
 {
     let there = payload.len() - body;
     match kind {
@@ -165,30 +172,35 @@ fn taken_at(payload: &[u8], body: usize, kind: u8, size: usize) -> Taken
     }
 }
 
-// The type and size of the block at a place, and where it ends.
-pub fn extent_of(payload: &[u8], at: usize) -> Extent
-    ensures { result ≡ extent_at payload.now at }
+// The type and the size field of the block at a place, if its head is there.
+pub fn head_at(payload: &[u8], at: usize) -> Option<Head>
+    ensures { result ≡ head_at payload.now at }
 {
-    if payload.len() < 3 {
-        return Extent::Refused {
-            number: 1,
-            place: at,
-        };
+    if payload.len() < 3 || payload.len() - 3 < at {
+        return None;
     }
-    if payload.len() - 3 < at {
-        return Extent::Refused {
-            number: 1,
+    Some(Head {
+        kind: payload[at],
+        size: be(payload, at + 1),
+    })
+}
+
+// The type and size of the block at a place, and where it ends.
+pub fn extent_of(payload: &[u8], at: usize) -> Result<End, RefusedAt>
+    ensures { extent_as result ≡ extent_at payload.now at }
+{
+    let Some(head) = head_at(payload, at) else {
+        return Err(RefusedAt {
+            refusal: Refusal::EndsInsideBlock,
             place: at,
-        };
-    }
-    let kind = payload[at];
-    let size = be_u16(payload, at + 1);
-    match taken_at(payload, at + 3, kind, usize_from_u16(size)) {
-        Taken::Bytes { count } => Extent::Ends {
-            kind,
-            size,
+        });
+    };
+    match taken_at(payload, at + 3, head.kind, usize::from(head.size)) {
+        Ok(count) => Ok(End {
+            kind: head.kind,
+            size: head.size,
             next: at + 3 + count,
-        },
-        Taken::Refused { number } => Extent::Refused { number, place: at },
+        }),
+        Err(refusal) => Err(RefusedAt { refusal, place: at }),
     }
 }

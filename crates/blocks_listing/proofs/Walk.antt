@@ -1,23 +1,26 @@
 -- The walk over a payload's blocks. Counting knows of the reader that a block that was read ends after its place and not past the end; filling knows also that its type and size stand at its place, and that they say how long it is. Assumes nothing.
 use mathlib.Core.Path.{◌≡◌, refl, sym, ap, ◌∙◌, subst}
 use mathlib.Core.Bool.{Bool, true, false, cond}
-use mathlib.Core.List.{List, [], ◌∷◌, ◌++◌}
+use mathlib.Core.List.{List, [], ◌∷◌, ◌++◌, append-nil}
+use native.Mathlib.Numerals.{add-one}
+use Rattle.std.proofs.Math.ListN.{drop_of_length-le}
 use Prim.Native.Nat.{ℕ, zero, suc, ◌+◌, ◌-◌, ◌<◌, ◌≤◌}
 use native.Mathlib.Omega.{arith}
 use native.Mathlib.Nat.{zero-add, sub-zero}
 use lib.Dec.{ltb, leb, eqb}
-use lib.ListN.{length, get_or, drop}
+use lib.ListN.{length, get_or, drop, set}
 use lib.Seq.{sets, sets-eq}
 use borrow.Author.Tests.{ltb-true, ltb-false, leb-true, lt-ltb, le-ltb, le-leb, lt-leb, eqb-true, eqb-false}
-use Rattle.blocks.specs.declared.Extent.{Extent}
-use Rattle.blocks.specs.declared.Extent.TheVariants as End
+use Rattle.blocks.specs.Outcomes.{Extent}
+use Rattle.blocks.specs.Outcomes as End
 use Rattle.blocks_listing.specs.declared.Entry.{Entry}
 use Rattle.blocks_listing.specs.declared.Step.{Step}
-use Rattle.blocks_listing.specs.declared.Answer.{Answer}
+use Rattle.blocks_listing.specs.Answers.{Answer}
 use Rattle.blocks.specs.Extent.{kind_at, size_at, extent_at}
 use Rattle.blocks.specs.Sound.{body_length}
 use Rattle.blocks_listing.specs.Listing.{Listing, ok, no, entry, cons, onward, blocks_from, blocks_of, limited, listing, counts, refused_listing, listing_answer, entries_after, step_over, stays_at, step_at, entries_from}
-use Rattle.blocks.proofs.Ends.{bounded}
+use Rattle.blocks.specs.declared.Head.{Head}
+use Rattle.blocks.proofs.Ends.{Headed, bounded}
 
 -- what counting knows of the reader
 pub goes_on : (s : List ℕ) (at k z next : ℕ) → extent_at s at ≡ End.Ends k z next → (at + 3 ≤ next) × (next ≤ length s)
@@ -126,14 +129,24 @@ steps s at k z next e =
     let n : at + 3 + body_length (kind_at s at) (size_at s at) ≡ next = ap (λ (j : ℕ). at + 3 + body_length j (size_at s at)) b.is_kind ∙ ap (λ (j : ℕ). at + 3 + body_length k j) b.is_size ∙ sym b.length_is in
     rw (le-leb (at + 3 + body_length (kind_at s at) (size_at s at)) (length s) (omega (arith, n, b.inside))) (ap (λ (j : ℕ). record { entry = entry at (kind_at s at) (size_at s at); next = j }) n ∙ ap (λ (j : ℕ). record { entry = entry at j (size_at s at); next = next }) b.is_kind ∙ ap (λ (j : ℕ). record { entry = entry at k j; next = next }) b.is_size)
 
--- a step as the code finds it
+-- a step as the code finds it: without a head, past the end, over a body
 pub no_step : (s : List ℕ) (at : ℕ) → length s < at + 3 + body_length (kind_at s at) (size_at s at) → stays_at at ≡ step_at s at
 unfolding step_at
 no_step s at h = rw (lt-leb (at + 3 + body_length (kind_at s at) (size_at s at)) (length s) h)
 
-pub step_over_lem : (s : List ℕ) (at z n : ℕ) → z ≡ size_at s at → n ≡ body_length (kind_at s at) (size_at s at) → at + 3 + n ≤ length s → record { entry = entry at (kind_at s at) z; next = at + 3 + n } ≡ step_at s at
-unfolding step_at
-step_over_lem s at z n e q h = rw (e, le-leb (at + 3 + body_length (kind_at s at) (size_at s at)) (length s) (omega (arith, q))) (ap (step_over s at) q)
+module _ (s : List ℕ) (at : ℕ) (g : Head) (h : Headed s at g) where
+  -- the length of the body
+  body : body_length g.kind g.size ≡ body_length (kind_at s at) (size_at s at)
+  body = ap (λ (k : ℕ). body_length k g.size) h.is_kind ∙ ap (body_length (kind_at s at)) h.is_size
+
+  pub step_past : {n : ℕ} → n ≡ body_length g.kind g.size → length s < at + 3 + n → stays_at at ≡ step_at s at
+  step_past {n} e l = no_step s at (let b : n ≡ body_length (kind_at s at) (size_at s at) = e ∙ body in omega (arith, l, b))
+
+  pub step_over_lem : {n : ℕ} → n ≡ body_length g.kind g.size → at + 3 + n ≤ length s → record { entry = entry at g.kind g.size; next = at + 3 + n } ≡ step_at s at
+  unfolding step_at
+  step_over_lem {n} e l =
+      let b : n ≡ body_length (kind_at s at) (size_at s at) = e ∙ body in
+      rw (h.is_kind, h.is_size, le-leb (at + 3 + body_length (kind_at s at) (size_at s at)) (length s) (omega (arith, l, b))) (ap (step_over s at) b)
 
 -- where there is a listing, its records are those
 pub listed : (f : ℕ) (s : List ℕ) (at : ℕ) (es : List Entry) → blocks_from f s at ≡ ok es → entries_from (length es) s at ≡ es
@@ -179,3 +192,43 @@ filling s ys = go (limited (length ys) (blocks_from (length s) s 0)) refl
         let r = listed (length s) s 0 es h.0 in
         (h.1, ap (λ (l : List Entry). sets ys 0 l) r ∙ sets-eq es ys 0 (omega arith) ∙ ap (λ (n : ℕ). es ++ drop n ys) (zero-add (length es)))
     go (no m p) e = (omega arith, refl)
+
+-- as many records as are counted, and then what stood there, is the list as it is to be
+pub filled : (s : List ℕ) (ys : List Entry) (n : ℕ) → counts n ≡ listing_answer (listing (length ys) s) → (n ≤ length ys) × (entries_from n s 0 ++ drop n ys ≡ entries_after (listing (length ys) s) ys)
+unfolding listing blocks_of
+filled s ys n = go (limited (length ys) (blocks_from (length s) s 0)) refl
+  where
+    go : (l : Listing) → limited (length ys) (blocks_from (length s) s 0) ≡ l → counts n ≡ listing_answer l → (n ≤ length ys) × (entries_from n s 0 ++ drop n ys ≡ entries_after l ys)
+    go (ok es) e q =
+        let many : n ≡ length es = ap (λ (a : Answer). a.count) q in
+        let h = within (length ys) (blocks_from (length s) s 0) es e in
+        rw many (h.1, ap (λ (l : List Entry). l ++ drop (length es) ys) (listed (length s) s 0 es h.0))
+    go (no m p) e q = let none : n ≡ 0 = ap (λ (a : Answer). a.count) q in rw none (omega arith, refl)
+
+-- a listing that is refused leaves the list
+pub left_as_it_was : (s : List ℕ) (ys : List Entry) (m p : ℕ) → refused_listing m p ≡ listing_answer (listing (length ys) s) → ys ≡ entries_after (listing (length ys) s) ys
+left_as_it_was s ys m p = go (listing (length ys) s)
+  where
+    go : (l : Listing) → refused_listing m p ≡ listing_answer l → ys ≡ entries_after l ys
+    go (ok []) q = refl
+    go (ok (e ∷ es)) q = let none : 0 ≡ length (e ∷ es) = ap (λ (a : Answer). a.count) q in absurd (omega arith)
+    go (no i j) q = refl
+
+entries_many : (k : ℕ) (s : List ℕ) (at : ℕ) → length (entries_from k s at) ≡ k
+entries_many zero s at = refl
+entries_many (suc k) s at = ap suc (entries_many k s (step_at s at).next)
+
+-- before the first of n stores over as many records, and after the last
+pub before_first : (s : List ℕ) (l : List Entry) (n : ℕ) → length l ≡ n → sets l 0 (entries_from (n - 0) s 0) ≡ entries_from n s 0
+before_first s l n h =
+    let long = entries_many n s 0 in
+    rw (sub-zero n) (sets-eq (entries_from n s 0) l 0 (omega (arith, long)) ∙ ap (λ (r : List Entry). entries_from n s 0 ++ r) (drop_of_length-le l (omega (arith, long))) ∙ append-nil (entries_from n s 0))
+
+pub after_last : (s : List ℕ) (l : List Entry) (i n at : ℕ) → n ≤ i → sets l i (entries_from (n - i) s at) ≡ l
+after_last s l i n at h = let none : n - i ≡ 0 = omega arith in rw none refl
+
+-- one more record stored, of the block at the place that the code has
+pub one_stored : (s : List ℕ) (l : List Entry) (i n at : ℕ) (r : Step) → r ≡ step_at s at → i < n → sets (set l i r.entry) (i + 1) (entries_from (n - (i + 1)) s r.next) ≡ sets l i (entries_from (n - i) s at)
+one_stored s l i n at r e h =
+    let left : n - i ≡ suc (n - (i + 1)) = omega arith in
+    rw (e, left, add-one i) refl

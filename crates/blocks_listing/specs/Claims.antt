@@ -1,6 +1,6 @@
 -- What is shown of reading and listing together.
 use Rattle.std.specs.Prelude.{◌≡◌, List, [], ◌∷◌, ℕ, ◌<◌, length}
-use Rattle.blocks.specs.declared.Extent.TheVariants as End
+use Rattle.blocks.specs.Outcomes as End
 use Rattle.blocks.specs.Reading.{read_at}
 use Rattle.blocks_listing.specs.declared.Entry.{Entry}
 use Rattle.blocks_listing.specs.Listing.{ok, no, entry, blocks_of, entries_from}

@@ -1,10 +1,12 @@
 -- The listing of a payload: a record for each block, or the refusal.
-use Rattle.std.specs.Prelude.{cond, List, [], ◌∷◌, ◌++◌, ℕ, zero, suc, ◌+◌, ltb, leb, length, get_or, drop}
-use Rattle.blocks.specs.declared.Extent.{Extent}
-use Rattle.blocks.specs.declared.Extent.TheVariants as End
+use Rattle.std.specs.Prelude.{cond, List, [], ◌∷◌, ◌++◌, ℕ, zero, suc, ◌+◌, ltb, leb, length, get_or, drop, Result, Ok, Err}
+use Rattle.refusals.specs.Numbers.{number}
+use Rattle.blocks.specs.declared.RefusedAt.{RefusedAt}
+use Rattle.blocks.specs.Outcomes.{Extent}
+use Rattle.blocks.specs.Outcomes as End
 use Rattle.blocks_listing.specs.declared.Entry.{Entry}
 use Rattle.blocks_listing.specs.declared.Step.{Step}
-use Rattle.blocks_listing.specs.declared.Answer.{Answer}
+use Rattle.blocks_listing.specs.Answers.{Answer}
 use Rattle.blocks.specs.Extent.{kind_at, size_at, extent_at}
 use Rattle.blocks.specs.Sound.{body_length}
 
@@ -63,12 +65,12 @@ abbrev pub entries_after : Listing → List Entry → List Entry
 entries_after (ok es) l = es ++ drop (length es) l
 entries_after (no m p) l = l
 
--- (From here on: how the code goes over a payload.) The refusal of a block that was not read
-abbrev pub extent_refusal : Extent → Answer
-extent_refusal (End.Refused m p) = refused_listing m p
-extent_refusal (End.Ends k z next) = counts 0
+-- what the code answers of a listing
+abbrev pub answer_as : Result ℕ RefusedAt → Answer
+answer_as (Ok n) = counts n
+answer_as (Err r) = refused_listing (number r.refusal) r.place
 
--- where a step cannot be made
+-- (From here on: how the code goes over a payload.) Where a step cannot be made
 abbrev pub stays_at : ℕ → Step
 stays_at at = record { entry = entry at 0 0; next = at }
 

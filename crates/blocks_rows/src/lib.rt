@@ -6,12 +6,73 @@ ghost use Rattle.wire.specs.Parts.{splice};
 ghost use Rattle.wire.specs.Numbers.{big_at, big_bytes};
 ghost use Rattle.blocks.specs.Layout.{sum, fields_at, field_bytes, fits, eight};
 ghost use Rattle.blocks.specs.Table.{widths, after_fields, typed, field_length, carries};
-ghost use Rattle.blocks.specs.Packed.{digit, row_number, width_of, unpacked};
+ghost use Rattle.blocks.specs.Packed.{row_number, width_of, unpacked};
 
-use wire_numbers::{be_u16, be_u32, be_u64, put_u16, put_u32, put_u64};
+use blocks::After;
+use wire_numbers::{be, put_be};
 
-// The row of a type, in hexadecimal digits from the right: the widths of its fields, eight at most, the first field's first; what follows them (0 nothing, 1 bytes, 2 some bytes, 3 pairs, 4 an IP; 8 more where the first field is a message's type); the bytes of all fields.
-pub fn row_of(kind: u8) -> u64
+// The row of a type, as one number, since a table of constants is stored anew at each use. In hexadecimal digits from the right: the widths of its fields, eight at most, the first field's first; what follows them (0 nothing, 1 bytes, 2 some bytes, 3 pairs, 4 an IP; 8 more where the first field is a message's type); the bytes of all fields.
+#[derive(Clone, Copy, Debug, PartialEq, Eq)]
+pub struct Row {
+    pub kind: u8,
+    pub number: u64,
+    ghost is_row: { number ≡ row_number kind },
+}
+
+// A number that is proved to fit is turned with as: try_from would answer a Result that cannot fail.
+impl Row {
+    pub fn of(kind: u8) -> Row
+        ensures { (result.kind ≡ kind) × (result.number ≡ row_number kind) }
+    {
+        Row {
+            kind,
+            number: number_of(kind),
+        }
+    }
+
+    // The widths of the fields, a digit each.
+    pub fn widths(self) -> u32
+        ensures { unpacked 8 result ≡ widths self.kind }
+    {
+        (self.number % 4294967296) as u32
+    }
+
+    // What follows the fields.
+    pub fn after(self) -> After
+        ensures { result ≡ after_fields self.kind }
+    {
+        match self.number / 4294967296 % 8 {
+            0 => After::Nothing,
+            1 => After::Any,
+            2 => After::Some,
+            3 => After::Pairs,
+            _ => After::Ip,
+        }
+    }
+
+    // Whether bytes follow them.
+    pub fn carries_bytes(self) -> bool
+        ensures { result ≡ carries (after_fields self.kind) }
+    {
+        !matches!(self.after(), After::Nothing)
+    }
+
+    // Whether the first of them is the type of an I2NP message.
+    pub fn is_typed(self) -> bool
+        ensures { result ≡ typed self.kind }
+    {
+        self.number / 34359738368 % 2 == 1
+    }
+
+    // Their bytes.
+    pub fn length(self) -> usize
+        ensures { (result ≡ field_length self.kind) × (result ≤ 12) }
+    {
+        (self.number / 68719476736) as usize
+    }
+}
+
+fn number_of(kind: u8) -> u64
     ensures { result ≡ row_number kind }
 {
     match kind {
@@ -31,47 +92,8 @@ pub fn row_of(kind: u8) -> u64
     }
 }
 
-// The widths of a type's fields, by its row.
-pub fn widths_of(kind: u8, row: u64) -> u32
-    requires { row ≡ row_number kind }
-    ensures { unpacked 8 result ≡ widths kind }
-{
-    (row % 4294967296) as u32
-}
-
-// What follows them.
-pub fn after_of(kind: u8, row: u64) -> u64
-    requires { row ≡ row_number kind }
-    ensures { result ≡ digit (after_fields kind) }
-{
-    row / 4294967296 % 8
-}
-
-// Whether bytes follow them.
-pub fn carries_bytes(kind: u8, row: u64) -> bool
-    requires { row ≡ row_number kind }
-    ensures { result ≡ carries (after_fields kind) }
-{
-    after_of(kind, row) != 0
-}
-
-// Whether the first of them is the type of an I2NP message.
-pub fn is_typed(kind: u8, row: u64) -> bool
-    requires { row ≡ row_number kind }
-    ensures { result ≡ typed kind }
-{
-    row / 34359738368 % 2 == 1
-}
-
-// Their bytes.
-pub fn length_of(kind: u8, row: u64) -> usize
-    requires { row ≡ row_number kind }
-    ensures { (result ≡ field_length kind) × (result ≤ 12) }
-{
-    (row / 68719476736) as usize
-}
-
 // The bytes of a field, by its digit.
+#[tactic(auto, using(std::proofs::lemmas::Bool::Decides::nat_tests), unfolding(blocks::specs::Packed::width_of))]
 fn width_of(digit: u32) -> usize
     ensures { (result ≡ width_of digit) × (result ≤ 8) }
 {
@@ -89,10 +111,10 @@ fn number_at(b: &[u8], at: usize, digit: u32) -> u64
     ensures { result ≡ big_at (width_of digit) b.now at }
 {
     match digit {
-        1 => b[at] as u64,
-        2 => be_u16(b, at) as u64,
-        4 => be_u32(b, at) as u64,
-        _ => be_u64(b, at),
+        1 => u64::from(b[at]),
+        2 => u64::from(be::<u16>(b, at)),
+        4 => u64::from(be::<u32>(b, at)),
+        _ => be(b, at),
     }
 }
 
@@ -100,6 +122,7 @@ fn number_at(b: &[u8], at: usize, digit: u32) -> u64
 const WIDE: u64 = 0xFFFF_FFFF_FFFF_FFFF;
 
 // The largest number of a field, by its digit. With an arm for each digit it is looked up without a test.
+#[tactic(auto, using(std::proofs::lemmas::Bool::Decides::nat_tests), unfolding(blocks::specs::Packed::width_of))]
 fn limit_of(digit: u32) -> u64
     ensures { result + 1 ≡ 256 ^ width_of digit }
 {
@@ -130,20 +153,23 @@ fn put_number(room: &mut [u8], at: usize, digit: u32, x: u64)
 {
     match digit {
         1 => room[at] = (x % 256) as u8,
-        2 => put_u16(room, at, (x % 65536) as u16),
-        4 => put_u32(room, at, (x % 4294967296) as u32),
-        _ => put_u64(room, at, x),
+        2 => put_be::<u16>(room, at, (x % 65536) as u16),
+        4 => put_be::<u32>(room, at, (x % 4294967296) as u32),
+        _ => put_be(room, at, x),
     }
 }
 
 // Eight numbers that are 0.
+#[tactic(auto, unfolding(blocks::specs::Layout::eight))]
 pub fn no_fields() -> [u64; 8]
     ensures { result ≡ eight [] }
 {
     [0; 8]
 }
 
+// (The digits that are left end each of the three loops below, and not the fields: a `for` over the eight fields would want a `break` or go over all of them.)
 // The numbers of a row's fields, from a place on, and 0 after the last one.
+// Its answers stay: tried by naming the loop's laws, and the check does not find them.
 pub fn read_fields(b: &[u8], body: usize, row: u32) -> [u64; 8]
     requires { body + sum (unpacked 8 row) ≤ length b.now }
     ensures { result ≡ eight (fields_at (unpacked 8 row) b.now body) }
@@ -163,6 +189,7 @@ pub fn read_fields(b: &[u8], body: usize, row: u32) -> [u64; 8]
 }
 
 // Whether each number of a row's fields fits its place.
+// Its answers stay: tried by naming the loop's laws, and the check does not find them.
 pub fn fit_fields(row: u32, fields: [u64; 8]) -> bool
     ensures { result ≡ fits (unpacked 8 row) fields }
 {
@@ -178,6 +205,7 @@ pub fn fit_fields(row: u32, fields: [u64; 8]) -> bool
 }
 
 // The numbers of a row's fields put from a place on.
+// Its answers stay: tried by naming the loop's laws, and the check does not find them.
 pub fn put_fields(room: &mut [u8], body: usize, row: u32, fields: [u64; 8])
     requires { body + sum (unpacked 8 row) ≤ length room.old }
     ensures { room.new ≡ splice room.old body (field_bytes (unpacked 8 row) fields) }

@@ -122,3 +122,9 @@ rest_twice k2 t p h = masked_twice p (stream k2 (replicate 12 0)) 16 (masked_len
 pub part_rest : (k2 : List ℕ) (t : ℕ) (p : List ℕ) (o n : ℕ) → 16 + masked_length t ≤ length p → o + n ≤ 16 → part (rest k2 t p) o n ≡ part p o n
 unfolding rest
 part_rest k2 t p o n h g = masked_other p (stream k2 (replicate 12 0)) 16 (masked_length t) h o n (inl g)
+
+pub type_rest : (k2 : List ℕ) (t : ℕ) (q : List ℕ) → 16 + masked_length t ≤ length q → packet_kind (rest k2 t q) ≡ packet_kind q
+type_rest k2 t q h =
+    sym (get_d_part (rest k2 t q) 0 16 12 0 (omega arith))
+    ∙ ap (λ (z : List ℕ). get_or z 12 0) (part_rest k2 t q 0 16 h (omega arith))
+    ∙ get_d_part q 0 16 12 0 (omega arith)

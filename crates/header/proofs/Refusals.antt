@@ -1,12 +1,13 @@
 -- Which refusal is given where two hold, and what follows where a header is not refused. Assumes nothing.
 use mathlib.Core.Path.{◌≡◌, refl}
+use mathlib.Core.Logic.{◌⊎◌, inl, inr}
 use mathlib.Core.Bool.{Bool, true, false, cond, ◌&&◌, ◌||◌, not}
 use mathlib.Core.List.{List}
 use Prim.Native.Nat.{ℕ, ◌+◌, ◌≤◌}
 use native.Mathlib.Omega.{arith}
 use lib.Dec.{eqb, ltb}
 use lib.ListN.{get_or}
-use borrow.Author.Tests.{ltb-false, not-false}
+use borrow.Author.Tests.{ltb-false, not-false, le-ltb}
 use Rattle.wire.specs.Parts.{part}
 use Rattle.wire.specs.Numbers.{big_at}
 use Rattle.wire.proofs.Parts.{get_d_part}
@@ -21,6 +22,10 @@ use Rattle.header.specs.Writing.{write_number}
 pub type_first : (q : List ℕ) (n : ℕ) → is_listed (packet_kind q) ≡ false → front_refusal q n ≡ 21
 unfolding front_refusal
 type_first q n e = rw e
+
+pub type_first_written : (f : Fields) (n : ℕ) → is_listed f.kind ≡ false → write_number f n ≡ 21
+unfolding write_number
+type_first_written f n e = rw e
 
 -- a nibble above 15 is 25, however short the packet
 pub nibbles_first : (f : Fields) (n : ℕ) → f.kind ≡ 2 → f.number ≡ 0 → (ltb 15 f.fragment || ltb 15 f.count) ≡ true → write_number f n ≡ 25
@@ -115,3 +120,29 @@ long_le t = by (is_keyed t) (is_short t)
 pub need_keyed : (t : ℕ) → is_keyed t ≡ true → need_of t ≡ 88
 unfolding need_of
 need_keyed t e = rw e
+
+-- a test of two, where one of them is known not to hold
+pub long_enough : {a : Bool} {n m : ℕ} → ((a ≡ true) × (m ≤ n)) ⊎ (a ≡ false) → (a && ltb n m) ≡ false
+long_enough {n = n} {m = m} (inl (e, h)) = rw e (le-ltb n m h)
+long_enough (inr e) = rw e
+
+pub number_0 : {a : Bool} {x : ℕ} → ((a ≡ true) × (x ≡ 0)) ⊎ (a ≡ false) → (a && not (eqb x 0)) ≡ false
+number_0 (inl (e, z)) = rw (e, z)
+number_0 (inr e) = rw e
+
+pub in_nibbles : {a b : Bool} → ((a ≡ true) × (b ≡ true)) ⊎ (a ≡ false) → (a && not b) ≡ false
+in_nibbles (inl (e, z)) = rw (e, z)
+in_nibbles (inr e) = rw e
+
+-- what is left to test of a packet of a listed type t, and of fields
+pub read_judged :
+    (q : List ℕ) (n : ℕ) {t : ℕ} (v : Bool) → (t ≡ packet_kind q) × (is_listed (packet_kind q) ≡ true) → not v ≡ (not (is_short t) && not (is_version (get_or q 13 0)))
+    → front_refusal q n ≡ cond (not v) 22 (cond (is_keyed t && ltb n 64) 23 (cond (eqb t 2 && not (eqb (big_at 4 q 8) 0)) 24 0))
+unfolding front_refusal
+read_judged q n {t} v k e = rw (e, k.0, k.1)
+
+pub write_judged :
+    (f : Fields) (n : ℕ) {t : ℕ} (v g : Bool) → (t ≡ f.kind) × (is_listed f.kind ≡ true) → not v ≡ (not (is_short t) && not (is_version f.version)) → not g ≡ (ltb 15 f.fragment || ltb 15 f.count)
+    → write_number f n ≡ cond (not v) 22 (cond (eqb t 2 && not (eqb f.number 0)) 24 (cond (eqb t 2 && not g) 25 (cond (ltb n (need_of t)) 20 0)))
+unfolding write_number
+write_judged f n {t} v g k e w = rw (e, w, k.0, k.1)

@@ -11,7 +11,7 @@ use borrow.Author.Tests.{eqb-false}
 use types.Run.{OneOf}
 use Rattle.wire.specs.Numbers.{big_at}
 use Rattle.header.specs.declared.Fields.{Fields}
-use Rattle.header.specs.declared.Answer.TheVariants.{Header, Refused}
+use Rattle.std.specs.Prelude.{Ok, Err}
 use Rattle.header.specs.Kinds.{is_keyed, is_short, is_listed, is_version, need_of}
 use Rattle.header.specs.Unmasking.{front, packet_kind, unmasked}
 use Rattle.header.specs.Reading.{front_refusal, read_number, header_at, header_answer, packet_after_read}
@@ -19,16 +19,16 @@ use Rattle.header.specs.Writing.{write_number}
 
 module _ (k1 k2 p : List ℕ) where
   -- a refused packet has a number, and it is not 0
-  read_number_lem : (n : ℕ) → header_answer k1 k2 p ≡ Refused n → (read_number k1 k2 p ≡ n) × (eqb (read_number k1 k2 p) 0 ≡ false)
+  read_number_lem : (n : ℕ) → header_answer k1 k2 p ≡ Err n → (read_number k1 k2 p ≡ n) × (eqb (read_number k1 k2 p) 0 ≡ false)
   unfolding header_answer
   read_number_lem n e = go (eqb (read_number k1 k2 p) 0) refl e
     where
-      go : (b : Bool) → eqb (read_number k1 k2 p) 0 ≡ b → cond b (Header (header_at (unmasked k1 k2 p))) (Refused (read_number k1 k2 p)) ≡ Refused n
+      go : (b : Bool) → eqb (read_number k1 k2 p) 0 ≡ b → cond b (Ok (header_at (unmasked k1 k2 p))) (Err (read_number k1 k2 p)) ≡ Err n
           → (read_number k1 k2 p ≡ n) × (eqb (read_number k1 k2 p) 0 ≡ false)
       go true q z = let w : ◌≡◌ {A = ℕ} 0 1 = cc in absurd (omega arith)
       go false q z = (cc, q)
 
-  pub read_leaves : (n : ℕ) → header_answer k1 k2 p ≡ Refused n → packet_after_read k1 k2 p ≡ p
+  pub read_leaves : (n : ℕ) → header_answer k1 k2 p ≡ Err n → packet_after_read k1 k2 p ≡ p
   unfolding packet_after_read
   read_leaves n e = rw (read_number_lem n e).1
 
@@ -49,7 +49,7 @@ module _ (k1 k2 p : List ℕ) where
       go false false false false true ne = inr (inr (inr (inr refl)))
       go false false false false false ne = absurd (ne refl)
 
-  pub read_numbers_lem : (n : ℕ) → header_answer k1 k2 p ≡ Refused n → OneOf (20 ∷ 21 ∷ 22 ∷ 23 ∷ 24 ∷ []) n
+  pub read_numbers_lem : (n : ℕ) → header_answer k1 k2 p ≡ Err n → OneOf (20 ∷ 21 ∷ 22 ∷ 23 ∷ 24 ∷ []) n
   read_numbers_lem n e =
       subst (OneOf (20 ∷ 21 ∷ 22 ∷ 23 ∷ 24 ∷ [])) (read_number_lem n e).0 (some_read (eqb-false (read_number k1 k2 p) 0 (read_number_lem n e).1))
 

@@ -19,13 +19,13 @@ use Rattle.keystream.proofs.Masks.{bytes_masked, bytes_block}
 use Rattle.header.specs.declared.Long.{Long}
 use Rattle.header.specs.declared.Fields.{Fields}
 use Rattle.header.specs.declared.HeaderKind.TheVariants.{SessionConfirmed, Data}
-use Rattle.header.specs.declared.Answer.TheVariants.{Header}
+use Rattle.std.specs.Prelude.{Ok}
 use Rattle.header.specs.Kinds.{is_keyed, is_short, is_listed, is_version, masked_length, need_of}
 use Rattle.header.specs.Unmasking.{stream, nonce1, nonce2, front, rest, packet_kind, unmasked}
 use Rattle.header.specs.Reading.{front_refusal, read_number, long_at, long_header, header_at, header_answer, packet_after_read}
 use Rattle.header.specs.Writing.{write_number, byte13, byte14, front_bytes, id_bytes, header_bytes, plain, written_packet}
 use Rattle.header.specs.RoundTrip.{WordsInWidth, own, header_of, of_long, header_fields, UnnamedBitsZero, WrittenIsRead, ReadIsWritten}
-use Rattle.header.proofs.Fronts.{length_front, front_twice, length_rest, rest_twice, part_rest}
+use Rattle.header.proofs.Fronts.{length_front, front_twice, length_rest, rest_twice, part_rest, type_rest}
 use Rattle.header.proofs.Refusals.{refusal_front, Taken, read_taken, read_room, Given, write_given, need_enough, need_keyed}
 use Rattle.header.proofs.Plain.{length_front_bytes, length_id_bytes}
 
@@ -212,12 +212,6 @@ front_rest k2 t q h n =
     ∙ ap (λ (z : List ℕ). front_refusal z n) (part_rest k2 t q 0 16 h (omega arith))
     ∙ refusal_front q n
 
-type_rest : (k2 : List ℕ) (t : ℕ) (q : List ℕ) → 16 + masked_length t ≤ length q → packet_kind (rest k2 t q) ≡ packet_kind q
-type_rest k2 t q h =
-    sym (get_d_part (rest k2 t q) 0 16 12 0 (omega arith))
-    ∙ ap (λ (z : List ℕ). get_or z 12 0) (part_rest k2 t q 0 16 h (omega arith))
-    ∙ get_d_part q 0 16 12 0 (omega arith)
-
 -- fields that are not refused make a header that is not refused
 refusal_plain : (f : Fields) (p : List ℕ) → 32 ≤ length p → WordsInWidth f → Given f (length p) → front_refusal (plain f p) (length p) ≡ 0
 unfolding front_refusal
@@ -258,7 +252,7 @@ written_is_read k1 k2 f p w e =
     let none : front_refusal x (length p) ≡ 0 = front_rest k2 f.kind q hq (length p) ∙ refusal_plain f p h32 w g in
     let number : read_number k1 k2 y ≡ 0 = rw (le-ltb (length y) 40 (omega arith), back, ly) none in
     let whole : rest k2 (packet_kind (front k1 k2 y)) (front k1 k2 y) ≡ q = rw (back, type) (rest_twice k2 f.kind q hq) in
-    (rw number (ap Header (ap header_at whole ∙ kind_plain f p (length p) h32 w g)), rw number whole)
+    (rw number (ap Ok (ap header_at whole ∙ kind_plain f p (length p) h32 w g)), rw number whole)
 
 -- ---- writing what was read
 

@@ -10,7 +10,7 @@ use Rattle.wire.specs.Numbers.{Bytes, little_at, big_at}
 use Rattle.wire.proofs.Numbers.{little_at_lt, big_at_lt}
 use Rattle.header.specs.declared.Fields.{Fields}
 use Rattle.header.specs.declared.HeaderKind.TheVariants.{SessionConfirmed, Data}
-use Rattle.header.specs.declared.Answer.TheVariants.{Header, Refused}
+use Rattle.std.specs.Prelude.{Ok, Err}
 use Rattle.header.specs.Kinds.{is_listed}
 use Rattle.header.specs.Unmasking.{packet_kind, unmasked}
 use Rattle.header.specs.Reading.{read_number, long_at, long_header, header_at, header_answer, packet_after_read}
@@ -67,7 +67,7 @@ module _ (k1 k2 p : List ℕ) (e : read_number k1 k2 p ≡ 0) where
       kind_fits (unmasked k1 k2 p) (omega (arith, passed.0)) (bytes_unmasked k1 k2 p b) (taken_unmasked k1 k2 p passed.0 passed.1).listed
 
   -- taken, a packet is answered by its header and left unmasked, as long as it was
-  pub read_answer_lem : header_answer k1 k2 p ≡ Header (header_at (unmasked k1 k2 p))
+  pub read_answer_lem : header_answer k1 k2 p ≡ Ok (header_at (unmasked k1 k2 p))
   unfolding header_answer
   read_answer_lem = rw e
 
@@ -79,7 +79,7 @@ module _ (k1 k2 p : List ℕ) (e : read_number k1 k2 p ≡ 0) where
   length_left = let passed = read_passed k1 k2 p e in ap length read_left ∙ length_unmasked k1 k2 p passed.0 passed.1
 
 -- else it is refused by its number
-pub read_refusal : (k1 k2 p : List ℕ) → eqb (read_number k1 k2 p) 0 ≡ false → header_answer k1 k2 p ≡ Refused (read_number k1 k2 p)
+pub read_refusal : (k1 k2 p : List ℕ) → eqb (read_number k1 k2 p) 0 ≡ false → header_answer k1 k2 p ≡ Err (read_number k1 k2 p)
 unfolding header_answer
 read_refusal k1 k2 p e = rw e
 

@@ -1,11 +1,9 @@
 -- What reading a packet answers and leaves.
-use Rattle.std.specs.Prelude.{cond, ◌&&◌, not, List, ℕ, ◌/◌, ◌%◌, eqb, ltb, length, get_or}
+use Rattle.std.specs.Prelude.{Result, Ok, Err, cond, ◌&&◌, not, List, ℕ, ◌/◌, ◌%◌, eqb, ltb, length, get_or}
 use Rattle.wire.specs.Numbers.{little_at, big_at}
 use Rattle.header.specs.declared.Long.{Long}
 use Rattle.header.specs.declared.HeaderKind.{HeaderKind}
 use Rattle.header.specs.declared.HeaderKind.TheVariants.{SessionRequest, SessionCreated, SessionConfirmed, Data, PeerTest, Retry, TokenRequest, HolePunch}
-use Rattle.header.specs.declared.Answer.{Answer}
-use Rattle.header.specs.declared.Answer.TheVariants.{Header, Refused}
 use Rattle.header.specs.Kinds.{is_keyed, is_short, is_listed, is_version}
 use Rattle.header.specs.Unmasking.{front, packet_kind, unmasked}
 
@@ -52,8 +50,8 @@ header_at u =
     (long_header (packet_kind u) (long_at u)))
 
 -- the answer: the refusal, or the fields of the type at hand
-unfoldable pub header_answer : List ℕ → List ℕ → List ℕ → Answer
-header_answer k1 k2 p = cond (eqb (read_number k1 k2 p) 0) (Header (header_at (unmasked k1 k2 p))) (Refused (read_number k1 k2 p))
+unfoldable pub header_answer : List ℕ → List ℕ → List ℕ → Result HeaderKind ℕ
+header_answer k1 k2 p = cond (eqb (read_number k1 k2 p) 0) (Ok (header_at (unmasked k1 k2 p))) (Err (read_number k1 k2 p))
 
 -- the packet afterwards: unmasked, or as it came
 unfoldable pub packet_after_read : List ℕ → List ℕ → List ℕ → List ℕ

@@ -1,11 +1,10 @@
 -- Reading what was written, and writing what was read.
-use Rattle.std.specs.Prelude.{◌≡◌, true, false, cond, ◌&&◌, List, ℕ, ◌≤◌, ◌<◌, ◌^◌, eqb, length, get_or}
+use Rattle.std.specs.Prelude.{Ok, ◌≡◌, true, false, cond, ◌&&◌, List, ℕ, ◌≤◌, ◌<◌, ◌^◌, eqb, length, get_or}
 use Rattle.wire.specs.Numbers.{Bytes}
 use Rattle.header.specs.declared.Long.{Long}
 use Rattle.header.specs.declared.Fields.{Fields}
 use Rattle.header.specs.declared.HeaderKind.{HeaderKind}
 use Rattle.header.specs.declared.HeaderKind.TheVariants.{SessionRequest, SessionCreated, SessionConfirmed, Data, PeerTest, Retry, TokenRequest, HolePunch}
-use Rattle.header.specs.declared.Answer.TheVariants.{Header}
 use Rattle.header.specs.Kinds.{is_short, need_of}
 use Rattle.header.specs.Unmasking.{packet_kind, unmasked}
 use Rattle.header.specs.Reading.{read_number, long_header, header_at, header_answer, packet_after_read}
@@ -89,7 +88,7 @@ pub record UnnamedBitsZero (u : List ℕ) : Type 0 where
 abbrev pub WrittenIsRead : Type 0
 WrittenIsRead =
     (k1 k2 : List ℕ) (f : Fields) (p : List ℕ) → WordsInWidth f → write_number f (length p) ≡ 0
-    → (header_answer k1 k2 (written_packet k1 k2 f p) ≡ Header (header_of f)) × (packet_after_read k1 k2 (written_packet k1 k2 f p) ≡ plain f p)
+    → (header_answer k1 k2 (written_packet k1 k2 f p) ≡ Ok (header_of f)) × (packet_after_read k1 k2 (written_packet k1 k2 f p) ≡ plain f p)
 
 -- what reading took, written again over the unmasked packet, is the packet
 abbrev pub ReadIsWritten : Type 0

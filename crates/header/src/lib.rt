@@ -34,14 +34,8 @@ pub enum HeaderKind {
     HolePunch(Long),
 }
 
-// What reading finds: a header, or a refusal by document 01's number.
-#[derive(Clone, Copy)]
-pub enum Answer {
-    Header(HeaderKind),
-    Refused(u32),
-}
-
 // What is to be written: the type by its number, and the fields that it has; the others are passed over.
+// The type stays a number: a caller may pass any byte, 21 refuses those that are none, and the definitions speak of the number.
 #[derive(Clone, Copy)]
 pub struct Fields {
     pub kind: u8,

@@ -1,32 +1,18 @@
 // Damaged copies of packets: the masks are XORs, so a bit changed in a masked byte is that bit changed in the plain one.
-ghost use Rattle.std.specs.Prelude.{◌<◌};
-
 use crate::fields::Packet;
-use crate::first;
-use header::{Answer, Fields};
-use std::num::wrapping_add_u64;
+use header::Fields;
+use refusals::Refusal;
 
-// 1 where reading the packet's first n bytes is refused with this number and leaves every byte as it was.
-fn refused(p: Packet, bytes: [u8; 1500], n: usize, number: u32) -> u64 {
-    let k1 = p.k1;
-    let k2 = p.k2;
+// Whether reading a packet's first n bytes is refused so and leaves every byte as it was.
+fn refused(p: &Packet, bytes: [u8; 1500], n: usize, refusal: Refusal) -> bool {
     let mut work = bytes;
-    if 1500 < n {
-        return 0;
-    }
-    let answer = first::read(&mut work, n, &k1, &k2);
-    let Answer::Refused(r) = answer else {
-        return 0;
+    let Some(part) = work.get_mut(..n) else {
+        return false;
     };
-    ((r == number) & first::same(&work, &bytes)) as u64
-}
-
-fn flipped(bytes: [u8; 1500], i: usize, x: u8) -> [u8; 1500]
-    requires { i < 1500 }
-{
-    let mut b = bytes;
-    b[i] = b[i] ^ x;
-    b
+    match header_packets::read(part, &p.k1, &p.k2) {
+        Err(r) => r == refusal && work == bytes,
+        Ok(_) => false,
+    }
 }
 
 // The low byte of a number.
@@ -34,91 +20,107 @@ fn low(x: u64) -> u8 {
     (x % 256) as u8
 }
 
-fn is_short(p: Packet) -> bool {
-    let kind = p.kind;
-    (kind == 2) | (kind == 6)
-}
-
 // Cut to 39 bytes: 20.
-pub(crate) fn too_short(p: Packet) -> u64 {
-    let bytes = p.bytes;
-    refused(p, bytes, 39, 20)
+pub(crate) fn too_short(p: &Packet) -> bool {
+    refused(p, p.bytes, 39, Refusal::PacketShort)
 }
 
 // Type 3 in the place of its own: 21.
-pub(crate) fn other_type(p: Packet) -> u64 {
-    let bytes = p.bytes;
-    let b = flipped(bytes, 12, low(p.kind) ^ 3);
-    refused(p, b, p.len, 21)
+pub(crate) fn other_type(p: &Packet) -> bool {
+    let mut bytes = p.bytes;
+    bytes[12] ^= low(p.kind) ^ 3;
+    refused(p, bytes, p.len, Refusal::Type)
 }
 
 // Version 5 in the place of its own: 22.
-pub(crate) fn other_version(p: Packet) -> u64 {
-    if is_short(p) {
-        return 0;
-    }
-    let bytes = p.bytes;
-    let b = flipped(bytes, 13, low(p.thirteen) ^ 5);
-    refused(p, b, p.len, 22)
+pub(crate) fn other_version(p: &Packet) -> bool {
+    let mut bytes = p.bytes;
+    bytes[13] ^= low(p.thirteen) ^ 5;
+    !p.is_short() && refused(p, bytes, p.len, Refusal::Version)
 }
 
 // A Data packet under 64 bytes as a SessionRequest of version 2: 23.
-pub(crate) fn no_room_for_key(p: Packet) -> u64 {
-    let kind = p.kind;
-    if kind != 6 {
-        return 0;
-    }
-    let bytes = p.bytes;
-    let b = flipped(bytes, 12, 6);
-    let d = flipped(b, 13, low(p.thirteen) ^ 2);
-    refused(p, d, p.len, 23)
+pub(crate) fn no_room_for_key(p: &Packet) -> bool {
+    let mut bytes = p.bytes;
+    bytes[12] ^= 6;
+    bytes[13] ^= low(p.thirteen) ^ 2;
+    p.kind == 6 && refused(p, bytes, p.len, Refusal::KeyMissing)
 }
 
 // A Data packet as a SessionConfirmed, which has number 0 only: 24.
-pub(crate) fn numbered(p: Packet) -> u64 {
-    let kind = p.kind;
-    if kind != 6 {
-        return 0;
-    }
-    let bytes = p.bytes;
-    let b = flipped(bytes, 12, 4);
-    refused(p, b, p.len, 24)
+pub(crate) fn numbered(p: &Packet) -> bool {
+    let mut bytes = p.bytes;
+    bytes[12] ^= 4;
+    p.kind == 6 && refused(p, bytes, p.len, Refusal::ConfirmedNumber)
 }
 
-// 1 where writing into n bytes is refused with this number and leaves every byte as it was.
-fn unwritten(kind: u8, number: u32, version: u8, nibble: u8, n: usize, refusal: u32) -> u64 {
-    let k1 = [1u8; 32];
-    let k2 = [2u8; 32];
-    let came = [7u8; 1500];
-    let mut work = [7u8; 1500];
-    if 1500 < n {
-        return 0;
+// A header to be written into so many bytes, and why that is refused.
+#[derive(Clone, Copy)]
+struct Case {
+    kind: u8,
+    number: u32,
+    version: u8,
+    fragment: u8,
+    room: usize,
+    refusal: Refusal,
+}
+
+impl Case {
+    // Whether writing is refused so and leaves every byte as it was.
+    fn is_refused(&self) -> bool {
+        let f = Fields {
+            kind: self.kind,
+            destination: 1,
+            number: self.number,
+            version: self.version,
+            network: 2,
+            source: 3,
+            token: 4,
+            fragment: self.fragment,
+            count: 1,
+            immediate: true,
+        };
+        let mut work = [7u8; 1500];
+        let Some(part) = work.get_mut(..self.room) else {
+            return false;
+        };
+        header_packets::write(f, part, &[1; 32], &[2; 32]) == Err(self.refusal)
+            && work == [7u8; 1500]
     }
-    let f = Fields {
+}
+
+fn write_case(
+    kind: u8,
+    number: u32,
+    version: u8,
+    fragment: u8,
+    room: usize,
+    refusal: Refusal,
+) -> Case {
+    Case {
         kind,
-        destination: 1,
         number,
         version,
-        network: 2,
-        source: 3,
-        token: 4,
-        fragment: nibble,
-        count: 1,
-        immediate: true,
-    };
-    let r = first::write(f, &mut work, n, &k1, &k2);
-    ((r == refusal) & first::same(&work, &came)) as u64
+        fragment,
+        room,
+        refusal,
+    }
 }
 
 // How many of nine writes are refused as they should be: each number, in the order in which they are tested, and one byte short of each header.
-pub(crate) fn written() -> u64 {
-    let mut n = unwritten(3, 1, 5, 16, 39, 21);
-    n = wrapping_add_u64(n, unwritten(0, 1, 5, 16, 39, 22));
-    n = wrapping_add_u64(n, unwritten(2, 1, 5, 16, 39, 24));
-    n = wrapping_add_u64(n, unwritten(2, 0, 5, 16, 39, 25));
-    n = wrapping_add_u64(n, unwritten(2, 0, 5, 15, 39, 20));
-    n = wrapping_add_u64(n, unwritten(6, 1, 5, 16, 39, 20));
-    n = wrapping_add_u64(n, unwritten(9, 1, 4, 16, 55, 20));
-    n = wrapping_add_u64(n, unwritten(1, 1, 3, 16, 87, 20));
-    wrapping_add_u64(n, unwritten(11, 1, 1, 0, 96, 22))
+pub(crate) fn written() -> usize {
+    [
+        write_case(3, 1, 5, 16, 39, Refusal::Type),
+        write_case(0, 1, 5, 16, 39, Refusal::Version),
+        write_case(2, 1, 5, 16, 39, Refusal::ConfirmedNumber),
+        write_case(2, 0, 5, 16, 39, Refusal::Nibble),
+        write_case(2, 0, 5, 15, 39, Refusal::PacketShort),
+        write_case(6, 1, 5, 16, 39, Refusal::PacketShort),
+        write_case(9, 1, 4, 16, 55, Refusal::PacketShort),
+        write_case(1, 1, 3, 16, 87, Refusal::PacketShort),
+        write_case(11, 1, 1, 0, 96, Refusal::Version),
+    ]
+    .iter()
+    .filter(|c| c.is_refused())
+    .count()
 }

@@ -1,17 +1,16 @@
 // The fields of a line, read.
-ghost use Rattle.std.specs.Prelude.{◌≤◌, length};
+ghost use Rattle.std.specs.Prelude.{◌≤◌};
 
 use header::{Fields, HeaderKind, Long};
-use lines::Got;
 
 // A packet with its keys, and the numbers that the line gives for its fields; 2 ^ 64 - 1 where there is none.
-#[derive(Clone, Copy)]
+// No heap: bytes at the front of an array, and how many there are.
+#[derive(Drop)]
 pub(crate) struct Packet {
-    pub(crate) ok: bool,
     pub(crate) k1: [u8; 32],
     pub(crate) k2: [u8; 32],
-    pub(crate) len: usize,
     pub(crate) bytes: [u8; 1500],
+    pub(crate) len: usize,
     pub(crate) kind: u64,
     pub(crate) destination: u64,
     pub(crate) number: u64,
@@ -19,76 +18,70 @@ pub(crate) struct Packet {
     pub(crate) network: u64,
     pub(crate) source: u64,
     pub(crate) token: u64,
+    ghost within: { len ≤ 1500 },
 }
 
-// The bytes of the field at a place, put at the start of a buffer, and their count; 0 where they are no bytes.
-pub(crate) fn bytes_of(text: &[u8], at: usize, out: &mut [u8]) -> usize
-    ensures { result ≤ length out.new }
-{
-    let got = lines::bytes(lines::field(text, at), out);
-    let Got::Of(n) = got else {
-        return 0;
-    };
-    if (out.len() as u64) < n {
-        return 0;
+// The number that is next; what a field that is none counts as is each program's own.
+fn number(fields: &mut lines::Fields) -> u64 {
+    fields.number().unwrap_or(u64::MAX)
+}
+
+impl Packet {
+    pub(crate) fn read(fields: &mut lines::Fields) -> Option<Packet> {
+        let mut k1 = [0u8; 32];
+        let mut k2 = [0u8; 32];
+        let mut bytes = [0u8; 1500];
+        let n1 = fields.bytes(&mut k1)?;
+        let n2 = fields.bytes(&mut k2)?;
+        let len = fields.bytes(&mut bytes)?;
+        if n1 != k1.len() || n2 != k2.len() || len == 0 {
+            return None;
+        }
+        Some(Packet {
+            k1,
+            k2,
+            bytes,
+            len,
+            kind: number(fields),
+            destination: number(fields),
+            number: number(fields),
+            thirteen: number(fields),
+            network: number(fields),
+            source: number(fields),
+            token: number(fields),
+        })
     }
-    n as usize
-}
 
-fn number_at(text: &[u8], at: usize) -> u64 {
-    let got = lines::number(lines::field(text, at));
-    let Got::Of(n) = got else {
-        return 18446744073709551615;
-    };
-    n
-}
+    // Whether its type has a short header.
+    pub(crate) fn is_short(&self) -> bool {
+        self.kind == 2 || self.kind == 6
+    }
 
-// Four fields on.
-fn after_four(text: &[u8], at: usize) -> usize {
-    lines::after(
-        text,
-        lines::after(text, lines::after(text, lines::after(text, at))),
-    )
-}
-
-// The place of the plain header, the line's last field.
-pub(crate) fn plain_at(text: &[u8], at: usize) -> usize {
-    let fourth = after_four(text, at);
-    let eighth = after_four(text, fourth);
-    lines::after(text, lines::after(text, lines::after(text, eighth)))
-}
-
-pub(crate) fn packet_at(text: &[u8], at: usize) -> Packet {
-    let mut k1 = [0u8; 32];
-    let mut k2 = [0u8; 32];
-    let mut bytes = [0u8; 1500];
-    let a = bytes_of(text, at, &mut k1);
-    let at2 = lines::after(text, at);
-    let b = bytes_of(text, at2, &mut k2);
-    let at3 = lines::after(text, at2);
-    let len = bytes_of(text, at3, &mut bytes);
-    let at4 = lines::after(text, at3);
-    let at5 = lines::after(text, at4);
-    let at6 = lines::after(text, at5);
-    let at7 = lines::after(text, at6);
-    let at8 = lines::after(text, at7);
-    let at9 = lines::after(text, at8);
-    let at10 = lines::after(text, at9);
-    Packet {
-        ok: (a == 32) & (b == 32) & (len != 0),
-        k1,
-        k2,
-        len,
-        bytes,
-        kind: number_at(text, at4),
-        destination: number_at(text, at5),
-        number: number_at(text, at6),
-        thirteen: number_at(text, at7),
-        network: number_at(text, at8),
-        source: number_at(text, at9),
-        token: number_at(text, at10),
+    // Whether fields are those of the line; network, source and token only where the type has them.
+    pub(crate) fn agrees(&self, f: Fields) -> bool {
+        u64::from(f.kind) == self.kind
+            && f.destination == self.destination
+            && u64::from(f.number) == self.number
+            && thirteen(f) == self.thirteen
+            && (self.is_short()
+                || u64::from(f.network) == self.network
+                    && f.source == self.source
+                    && f.token == self.token)
     }
 }
+
+const NONE: Fields = Fields {
+    kind: 0,
+    destination: 0,
+    number: 0,
+    version: 0,
+    network: 0,
+    source: 0,
+    token: 0,
+    fragment: 0,
+    count: 0,
+    immediate: false,
+};
 
 fn of_long(kind: u8, l: Long) -> Fields {
     Fields {
@@ -99,9 +92,7 @@ fn of_long(kind: u8, l: Long) -> Fields {
         network: l.network,
         source: l.source,
         token: l.token,
-        fragment: 0,
-        count: 0,
-        immediate: false,
+        ..NONE
     }
 }
 
@@ -119,13 +110,9 @@ pub(crate) fn of(kind: HeaderKind) -> Fields {
             kind: 2,
             destination,
             number,
-            version: 0,
-            network: 0,
-            source: 0,
-            token: 0,
             fragment,
             count,
-            immediate: false,
+            ..NONE
         },
         HeaderKind::Data {
             destination,
@@ -135,13 +122,8 @@ pub(crate) fn of(kind: HeaderKind) -> Fields {
             kind: 6,
             destination,
             number,
-            version: 0,
-            network: 0,
-            source: 0,
-            token: 0,
-            fragment: 0,
-            count: 0,
             immediate,
+            ..NONE
         },
         HeaderKind::PeerTest(l) => of_long(7, l),
         HeaderKind::Retry(l) => of_long(9, l),
@@ -152,25 +134,9 @@ pub(crate) fn of(kind: HeaderKind) -> Fields {
 
 // Byte 13 by the fields: what stands there before it is masked.
 fn thirteen(f: Fields) -> u64 {
-    let kind = f.kind;
-    if kind == 2 {
-        return (f.fragment % 16) as u64 * 16 + (f.count % 16) as u64;
+    match f.kind {
+        2 => u64::from(f.fragment % 16) * 16 + u64::from(f.count % 16),
+        6 => u64::from(f.immediate),
+        _ => u64::from(f.version),
     }
-    if kind == 6 {
-        return f.immediate as u64;
-    }
-    f.version as u64
-}
-
-// Whether the fields are those of the line; network, source and token only where the type has them.
-pub(crate) fn agree(f: Fields, p: Packet) -> bool {
-    let first = (f.kind as u64 == p.kind)
-        & (f.destination == p.destination)
-        & (f.number as u64 == p.number)
-        & (thirteen(f) == p.thirteen);
-    let kind = f.kind;
-    if (kind == 2) | (kind == 6) {
-        return first;
-    }
-    first & (f.network as u64 == p.network) & (f.source == p.source) & (f.token == p.token)
 }

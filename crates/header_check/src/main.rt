@@ -3,42 +3,30 @@
 
 mod damage;
 mod fields;
-mod first;
 
-use header::Answer;
+use fields::Packet;
+use lines::{Fields, Input};
 use std::io;
 use std::io::Read;
-use std::num::wrapping_add_u64;
+
+// More buffers of lines than the list has.
+const BUFFERS: u32 = 64;
 
 // Whether reading leaves the line's plain header, and writing the fields again the packet.
-fn reads_and_writes(p: fields::Packet, plain: &[u8]) -> u64 {
-    let k1 = p.k1;
-    let k2 = p.k2;
-    let n = p.len;
-    let came = p.bytes;
+fn reads_and_writes(p: &Packet, plain: &[u8]) -> bool {
     let mut work = p.bytes;
-    if 1500 < n {
-        return 0;
-    }
-    let answer = first::read(&mut work, n, &k1, &k2);
-    let Answer::Header(kind) = answer else {
-        return 0;
+    let Ok(kind) = header_packets::read(&mut work[..p.len], &p.k1, &p.k2) else {
+        return false;
     };
-    if !first::begins(&work, plain) {
-        return 0;
-    }
     let f = fields::of(kind);
-    if !fields::agree(f, p) {
-        return 0;
-    }
-    if first::write(f, &mut work, n, &k1, &k2) != 0 {
-        return 0;
-    }
-    first::same(&work, &came) as u64
+    work.starts_with(plain)
+        && p.agrees(f)
+        && header_packets::write(f, &mut work[..p.len], &p.k1, &p.k2).is_ok()
+        && work == p.bytes
 }
 
 // What the lines gave: how many there are, how many agree, and how many damaged copies were refused by each number.
-#[derive(Clone, Copy)]
+#[derive(Clone, Copy, Default)]
 struct Counts {
     all: u64,
     agree: u64,
@@ -49,74 +37,55 @@ struct Counts {
     number: u64,
 }
 
-fn run_line(text: &[u8], at: usize, c: Counts) -> Counts {
-    let p = fields::packet_at(text, at);
-    let mut plain = [0u8; 64];
-    let h = fields::bytes_of(text, fields::plain_at(text, at), &mut plain);
-    let mut d = c;
-    d.all = wrapping_add_u64(d.all, 1);
-    if p.ok {
-        d.agree = wrapping_add_u64(d.agree, reads_and_writes(p, &plain[0..h]));
-        d.short = wrapping_add_u64(d.short, damage::too_short(p));
-        d.kind = wrapping_add_u64(d.kind, damage::other_type(p));
-        d.version = wrapping_add_u64(d.version, damage::other_version(p));
-        d.key = wrapping_add_u64(d.key, damage::no_room_for_key(p));
-        d.number = wrapping_add_u64(d.number, damage::numbered(p));
+// One more where something is so.
+fn count(n: &mut u64, so: bool) {
+    *n = n.saturating_add(u64::from(so));
+}
+
+impl Counts {
+    // Counts what comes of a line's packet and its damaged copies.
+    fn run(&mut self, mut fields: Fields) {
+        let mut plain = [0u8; 64];
+        count(&mut self.all, true);
+        let Some(p) = Packet::read(&mut fields) else {
+            return;
+        };
+        // A field that is not compared stands before it.
+        fields.next_field();
+        let len = fields.bytes(&mut plain).unwrap_or(0);
+        count(&mut self.agree, reads_and_writes(&p, &plain[..len]));
+        count(&mut self.short, damage::too_short(&p));
+        count(&mut self.kind, damage::other_type(&p));
+        count(&mut self.version, damage::other_version(&p));
+        count(&mut self.key, damage::no_room_for_key(&p));
+        count(&mut self.number, damage::numbered(&p));
     }
-    d
 }
 
-fn print(out: &impl Print, label: &[u8], n: u64) -> io::Result<()> {
-    out.write_all(label)?;
-    out.println(n)
-}
-
-// Each line of a text.
-fn run(text: &[u8], before: Counts) -> Counts {
-    let mut c = before;
-    let mut at = 0;
-    while at < text.len() {
-        let next = run_line(text, at, c);
-        c = next;
-        at = lines::after_line(text, at);
-    }
-    c
-}
-
-// The whole list, a buffer of lines at a time; 64 buffers are more than it has.
+// The whole list, a buffer of lines at a time.
 fn run_all(from: &mut impl Read) -> io::Result<Counts> {
-    let mut c = Counts {
-        all: 0,
-        agree: 0,
-        short: 0,
-        kind: 0,
-        version: 0,
-        key: 0,
-        number: 0,
-    };
-    let mut buf = [0u8; 65536];
-    let mut have = lines::refill(from, &mut buf, 0, 0)?;
-    for _ in 0..64u32 {
-        let end = lines::whole(&buf[0..have]);
-        let next = run(&buf[0..end], c);
-        c = next;
-        have = lines::refill(from, &mut buf, end, have)?;
+    let mut counts = Counts::default();
+    let mut input = Input::new();
+    for _ in 0..BUFFERS {
+        input.refill(from)?;
+        for line in input.lines() {
+            counts.run(line);
+        }
     }
-    Ok(c)
+    Ok(counts)
 }
 
 fn main(rt: HostRuntime) -> io::Result<()> {
     let c = run_all(&mut rt.stdin())?;
-    print(&rt, b"packets ", c.all)?;
-    print(&rt, b"read, and written again as they came ", c.agree)?;
-    print(&rt, b"damaged and refused with 20 ", c.short)?;
-    print(&rt, b"damaged and refused with 21 ", c.kind)?;
-    print(&rt, b"damaged and refused with 22 ", c.version)?;
-    print(&rt, b"damaged and refused with 23 ", c.key)?;
-    print(&rt, b"damaged and refused with 24 ", c.number)?;
-    print(
-        &rt,
-        b"writing refused as it should be, of 9: ",
-        damage::written(),
+    println!(rt; "packets {}", c.all)?;
+    println!(rt; "read, and written again as they came {}", c.agree)?;
+    println!(rt; "damaged and refused with 20 {}", c.short)?;
+    println!(rt; "damaged and refused with 21 {}", c.kind)?;
+    println!(rt; "damaged and refused with 22 {}", c.version)?;
+    println!(rt; "damaged and refused with 23 {}", c.key)?;
+    println!(rt; "damaged and refused with 24 {}", c.number)?;
+    println!(rt;
+        "writing refused as it should be, of 9: {}",
+        damage::written()
     )
 }

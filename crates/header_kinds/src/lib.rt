@@ -1,110 +1,163 @@
-// The tests on a header's type, version and number, and the order of the refusals.
+// The header types, and the order of the refusals of a header.
 #![tactic(auto)]
 
-ghost use Rattle.std.specs.Prelude.{◌≡◌};
-ghost use Rattle.header.specs.Kinds.{is_keyed, is_short, is_middle, is_listed, is_version, masked_length, need_of};
+ghost use Rattle.std.specs.Prelude.{◌≡◌, ◌&&◌, ◌||◌, not, eqb, ltb, get_or};
+ghost use Rattle.header.specs.Kinds.{is_keyed, is_short, is_version, masked_length, need_of};
 ghost use Rattle.header.specs.Reading.{front_refusal};
 ghost use Rattle.header.specs.Writing.{write_number};
+ghost use Rattle.header_kinds.specs.Types.{number, typed, type_of, judged};
 
 use header::Fields;
+use refusals::Refusal;
 
-fn is_keyed(t: u8) -> bool
-    ensures { result ≡ is_keyed t }
-{
-    (t == 0) | (t == 1)
+// The types of a header, in the names of the Rust crate. The value is the type's number.
+#[derive(Clone, Copy, Debug, PartialEq, Eq, Hash)]
+pub enum MessageType {
+    SessionRequest = 0,
+    SessionCreated = 1,
+    SessionConfirmed = 2,
+    Data = 6,
+    PeerTest = 7,
+    Retry = 9,
+    TokenRequest = 10,
+    HolePunch = 11,
 }
 
+impl TryFrom<u8> for MessageType {
+    type Error = Refusal;
+
+    ghost try_from_gives = { λ t result. typed result ≡ type_of t };
+
+    #[tactic(auto, unfolding(header::specs::Kinds::is_listed))]
+    fn try_from(t: u8) -> Result<MessageType, Refusal> {
+        match t {
+            0 => Ok(MessageType::SessionRequest),
+            1 => Ok(MessageType::SessionCreated),
+            2 => Ok(MessageType::SessionConfirmed),
+            6 => Ok(MessageType::Data),
+            7 => Ok(MessageType::PeerTest),
+            9 => Ok(MessageType::Retry),
+            10 => Ok(MessageType::TokenRequest),
+            11 => Ok(MessageType::HolePunch),
+            _ => Err(Refusal::Type),
+        }
+    }
+}
+
+// Whether a number is that of a type with a header of 16 bytes. Of any number: docs/FREE.md names it and long_of so.
 pub fn is_short(t: u8) -> bool
     ensures { result ≡ is_short t }
 {
-    (t == 2) | (t == 6)
+    matches!(t, 2 | 6)
 }
 
-fn is_middle(t: u8) -> bool
-    ensures { result ≡ is_middle t }
-{
-    (t == 7) | (t == 9) | (t == 10) | (t == 11)
-}
-
-fn is_listed(t: u8) -> bool
-    ensures { result ≡ is_listed t }
-{
-    is_keyed(t) | is_short(t) | is_middle(t)
-}
-
-fn is_version(v: u8) -> bool
-    ensures { result ≡ is_version v }
-{
-    (v == 2) | (v == 3) | (v == 4)
-}
-
-// How many bytes from 16 on a type has masked.
+// How many bytes from 16 on a number's type has masked.
+#[tactic(auto, unfolding(header::specs::Kinds::masked_length))]
 pub fn long_of(t: u8) -> usize
     ensures { result ≡ masked_length t }
 {
-    if is_keyed(t) {
-        return 48;
+    match t {
+        0 | 1 => 48,
+        2 | 6 => 0,
+        _ => 16,
     }
-    if is_short(t) {
-        return 0;
-    }
-    16
 }
 
-// How long a packet must be to be written.
-fn need_of(t: u8) -> usize
-    ensures { result ≡ need_of t }
-{
-    if is_keyed(t) {
-        return 88;
+impl MessageType {
+    // A header of 64 bytes, the last 32 a key. This and the next are two sets of types: a test with the set as a parameter would be no plainer.
+    fn is_keyed(self) -> bool
+        ensures { result ≡ is_keyed (number self) }
+    {
+        matches!(
+            self,
+            MessageType::SessionRequest | MessageType::SessionCreated
+        )
     }
-    if is_short(t) {
-        return 40;
+
+    // A header of 16 bytes.
+    pub fn is_short(self) -> bool
+        ensures { result ≡ is_short (number self) }
+    {
+        is_short(self as u8)
     }
-    56
+
+    // The one type with a packet number that must be 0, and with fragment and count.
+    fn is_confirmed(self) -> bool
+        ensures { result ≡ eqb (number self) 2 }
+    {
+        matches!(self, MessageType::SessionConfirmed)
+    }
+
+    // The short headers have no version; the others have one that 01 lists.
+    fn takes_version(self, v: u8) -> bool
+        ensures { not result ≡ not (is_short (number self)) && not (is_version v) }
+    {
+        self.is_short() || is_version(v)
+    }
+
+    // How long a packet must be to be written. An arm a kind, as in long_of: one function of both would take the numbers as parameters.
+    #[tactic(auto, unfolding(header::specs::Kinds::need_of))]
+    fn need(self) -> usize
+        ensures { result ≡ need_of (number self) }
+    {
+        match self {
+            MessageType::SessionRequest | MessageType::SessionCreated => 88,
+            MessageType::SessionConfirmed | MessageType::Data => 40,
+            _ => 56,
+        }
+    }
 }
 
-// The refusal of a packet of n bytes whose first 16 are these; 0 is none.
-pub fn refusal(head: [u8; 16], n: usize) -> u32
-    ensures { result ≡ front_refusal head n }
+#[tactic(auto, unfolding(header::specs::Kinds::is_version))]
+fn is_version(v: u8) -> bool
+    ensures { result ≡ is_version v }
 {
-    let t = head[12];
-    let v = head[13];
-    let number = wire_numbers::be_u32(&head, 8);
-    if !is_listed(t) {
-        return 21;
-    }
-    if !is_short(t) & !is_version(v) {
-        return 22;
-    }
-    if is_keyed(t) & (n < 64) {
-        return 23;
-    }
-    if (t == 2) & (number != 0) {
-        return 24;
-    }
-    0
+    matches!(v, 2 | 3 | 4)
 }
 
-// The refusal of these fields in a packet of n bytes; 0 is none.
-pub fn write_refusal(f: Fields, n: usize) -> u32
-    ensures { result ≡ write_number f n }
+// The type of a packet of n bytes whose first 16 are these, or its refusal.
+pub fn judge_read(head: &[u8; 16], n: usize) -> Result<MessageType, Refusal>
+    ensures { typed result ≡ judged (get_or head.now 12 0) (front_refusal head.now n) }
 {
-    let t = f.kind;
-    if !is_listed(t) {
-        return 21;
+    let kind = MessageType::try_from(head[12])?;
+    let number = wire_numbers::be::<u32>(head, 8);
+    if !kind.takes_version(head[13]) {
+        return Err(Refusal::Version);
     }
-    if !is_short(t) & !is_version(f.version) {
-        return 22;
+    if kind.is_keyed() && n < 64 {
+        return Err(Refusal::KeyMissing);
     }
-    if (t == 2) & (f.number != 0) {
-        return 24;
+    if kind.is_confirmed() && number != 0 {
+        return Err(Refusal::ConfirmedNumber);
     }
-    if (t == 2) & ((15 < f.fragment) | (15 < f.count)) {
-        return 25;
+    Ok(kind)
+}
+
+// Fragment and count have four bits each.
+fn are_nibbles(fragment: u8, count: u8) -> bool
+    ensures { not result ≡ ltb 15 fragment || ltb 15 count }
+{
+    fragment <= 15 && count <= 15
+}
+
+// The type of these fields in a packet of n bytes, or their refusal.
+pub fn judge_write(f: Fields, n: usize) -> Result<MessageType, Refusal>
+    ensures { typed result ≡ judged f.kind (write_number f n) }
+{
+    let kind = MessageType::try_from(f.kind)?;
+    let confirmed = kind.is_confirmed();
+    let nibbles = are_nibbles(f.fragment, f.count);
+    if !kind.takes_version(f.version) {
+        return Err(Refusal::Version);
     }
-    if n < need_of(t) {
-        return 20;
+    if confirmed && f.number != 0 {
+        return Err(Refusal::ConfirmedNumber);
     }
-    0
+    if confirmed && !nibbles {
+        return Err(Refusal::Nibble);
+    }
+    if n < kind.need() {
+        return Err(Refusal::PacketShort);
+    }
+    Ok(kind)
 }

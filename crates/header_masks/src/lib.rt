@@ -8,60 +8,52 @@ ghost use Rattle.header.specs.Unmasking.{front, rest};
 
 use header_kinds::long_of;
 
-// Twelve bytes of a packet.
-fn nonce_at(pkt: &[u8], at: usize) -> [u8; 12]
-    requires { at + 12 ≤ length pkt.now }
-    ensures { result ≡ part pkt.now at 12 }
+// N bytes of a packet.
+fn array_at<const N: usize>(pkt: &[u8], at: usize) -> [u8; N]
+    requires { at + N ≤ length pkt.now }
+    ensures { result ≡ part pkt.now at N }
 {
-    let mut out = [0u8; 12];
-    let end = at + 12;
-    wire::copy_to(&mut out, 0, &pkt[at..end]);
-    out
-}
-
-// The first 16 bytes of a packet.
-fn first_16(pkt: &[u8]) -> [u8; 16]
-    requires { 16 ≤ length pkt.now }
-    ensures { result ≡ part pkt.now 0 16 }
-{
-    let mut out = [0u8; 16];
-    wire::copy_to(&mut out, 0, &pkt[0..16]);
-    out
+    let end = at + N;
+    pkt[at..end].try_into().unwrap()
 }
 
 // The first 16 bytes of a packet, unmasked in a copy.
+// The keys stay two references, as header_packets says.
 pub fn front_of(pkt: &[u8], k1: &[u8; 32], k2: &[u8; 32]) -> [u8; 16]
     requires { 40 ≤ length pkt.now }
     ensures { result ≡ part (front k1.now k2.now pkt.now) 0 16 }
 {
     let n = pkt.len();
-    let first = nonce_at(pkt, n - 24);
-    let second = nonce_at(pkt, n - 12);
-    let mut head = first_16(pkt);
+    let first = array_at::<12>(pkt, n - 24);
+    let second = array_at::<12>(pkt, n - 12);
+    let mut head = array_at::<16>(pkt, 0);
     keystream::mask(&mut head, 0, 8, k1, 1, &first);
     keystream::mask(&mut head, 8, 8, k2, 1, &second);
     head
 }
 
 // The bytes from 16 on that a type has masked.
+// The clause on 16 + masked_length, here and in the next two, is of the type and the packet together, so no type of one holds it.
+#[tactic(auto, using(header::proofs::Fronts::rest_none, header::proofs::Fronts::rest_is, header::proofs::Refusals::long_le))]
 fn mask_rest(pkt: &mut [u8], t: u8, k2: &[u8; 32])
     requires { 16 + masked_length t ≤ length pkt.old }
     ensures { pkt.new ≡ rest k2.now t pkt.old }
 {
     let n = long_of(t);
+    // the short headers need no block of keystream
     if n == 0 {
         return;
     }
-    let zero = [0u8; 12];
-    keystream::mask(pkt, 16, n, k2, 1, &zero);
+    keystream::mask(pkt, 16, n, k2, 1, &[0; 12]);
 }
 
 // The unmasked front stored, and the rest unmasked.
-pub fn unmask(pkt: &mut [u8], head: [u8; 16], k2: &[u8; 32])
-    requires { (16 ≤ length pkt.old) × (16 + masked_length (get_or head 12 0) ≤ length pkt.old) }
-    ensures { pkt.new ≡ rest k2.now (get_or head 12 0) (splice pkt.old 0 head) }
+// unmask and mask take any number as the type, as docs/FREE.md names them; where they are called below a judge, it is that of a type.
+pub fn unmask(pkt: &mut [u8], head: &[u8; 16], k2: &[u8; 32])
+    requires { (16 ≤ length pkt.old) × (16 + masked_length (get_or head.now 12 0) ≤ length pkt.old) }
+    ensures { pkt.new ≡ rest k2.now (get_or head.now 12 0) (splice pkt.old 0 head.now) }
 {
-    wire::copy_to(pkt, 0, &head);
+    pkt[..16].copy_from_slice(head);
     mask_rest(pkt, head[12], k2);
 }
 
@@ -70,7 +62,7 @@ pub fn mask(pkt: &mut [u8], t: u8, k1: &[u8; 32], k2: &[u8; 32])
     requires { (40 ≤ length pkt.old) × (16 + masked_length t ≤ length pkt.old) }
     ensures { pkt.new ≡ front k1.now k2.now (rest k2.now t pkt.old) }
 {
-    mask_rest(pkt, t, k2);
+    mask_rest(pkt, t, k2); // the nonces of the front are of what this leaves
     let head = front_of(pkt, k1, k2);
-    wire::copy_to(pkt, 0, &head);
+    pkt[..16].copy_from_slice(&head);
 }

@@ -1,8 +1,10 @@
 -- Laws of words as bits: a rotation by shifts, and XOR twice. Assumes nothing.
-use Rattle.std.proofs.Common.{◌≡◌, ℕ, zero, suc, ◌+◌, ◌*◌, ◌/◌, ◌%◌, ◌^◌, ◌<◌, refl, ◌∙◌, ap₂, add-zero, div-add-mod', arith, shr_lt}
+use Rattle.std.proofs.Common.{◌≡◌, ℕ, zero, suc, ◌+◌, ◌-◌, ◌*◌, ◌/◌, ◌%◌, ◌^◌, ◌<◌, refl, ◌∙◌, ap₂, add-zero, div-add-mod', arith, shr_lt}
 use native.Mathlib.Nat.{mul-mod_left}
 use lib.Arith.{bin_ind}
 use lib.Bits.{bit_or, bit_xor, differ, or_shifted, xor_step, xor_self, xor_shr, xor_mod}
+use Rattle.std.specs.Int.{rotate_left, w32}
+use Rattle.keystream.specs.Chacha.{rotl}
 use lib.Pow.{mod-pow-add, shl-shr}
 
 -- a word of j + k bits, shifted up by k within its width, and its k high bits, shifted down, have no bit in common
@@ -11,6 +13,16 @@ rotated j k x h = rw up (or_shifted (x % 2 ^ j) k (x / 2 ^ j) (shr_lt k j h))
   where
     up : (x * 2 ^ k) % 2 ^ (j + k) ≡ (x % 2 ^ j) * 2 ^ k
     up = mod-pow-add (x * 2 ^ k) j k ∙ ap₂ (λ (a b : ℕ). (a % 2 ^ j) * 2 ^ k + b) (shl-shr x k) (mul-mod_left x (2 ^ k)) ∙ add-zero ((x % 2 ^ j) * 2 ^ k)
+
+-- the library's rotation of a word
+pub rotated_word : (n x : ℕ) → (0 < n) × (n < 32) → x < 2 ^ 32 → rotate_left w32 x n ≡ rotl x n
+unfolding rotl
+rotated_word n x h f =
+    let k : n % 32 ≡ n = omega arith in
+    let j : (32 - n) % 32 ≡ 32 - n = omega arith in
+    let e : (32 - n) + n ≡ 32 = omega arith in
+    let g : n + (32 - n) ≡ 32 = omega arith in
+    rw (k, j) (rw e at (rotated (32 - n) n x (rw g f)))
 
 differ_twice : (x y : ℕ) → x < 2 → y < 2 → differ (bit_xor x y) y ≡ x
 differ_twice zero zero h g = refl

@@ -1,12 +1,15 @@
 -- Laws of the block: a double round on 16 words, the first state from its words, the sums as bytes. Assumes nothing.
 use Rattle.std.proofs.Common.{◌≡◌, ℕ, zero, suc, ◌+◌, ◌*◌, ◌<◌, ◌≤◌, List, [], ◌∷◌, ◌++◌, length, get_or, take, sym, refl, ap, ◌∙◌, ap₂, append_assoc, append-nil, add-one, arith, length-append, length-take-le, take_all, take-suc}
+use Rattle.std.specs.Array.{IsFromFnResult, IsFromFnResultFrom}
+use denote.Param.Members.{Mut, Called}
+use mathlib.Core.Path.{subst}
 use Rattle.wire.specs.Parts.{splice}
 use Rattle.wire.specs.Numbers.{Bytes, little_at, little_bytes}
 use Rattle.wire.proofs.Parts.{splice_join, splice_all}
 use Rattle.wire.proofs.Slices.{splice_none}
 use Rattle.wire.proofs.Numbers.{length_little, bytes_append, bytes_little}
 use Rattle.keystream.specs.declared.rounds.Quad.{Quad}
-use Rattle.keystream.specs.Chacha.{add32, quarter, quad_at, put_quad, qround, columns, diagonals, double_round, words, initial, add_words, serialise}
+use Rattle.keystream.specs.Chacha.{add32, quarter, quad_at, put_quad, qround, columns, diagonals, double_round, words, add_words, serialise}
 
 -- what holds of every list of n elements, given as a function of the elements, holds of every list of length n
 abbrev Each : ℕ → (List ℕ → Type 0) → Type 0
@@ -47,14 +50,34 @@ pub round_by_quarters : (s : List ℕ) → length s ≡ 16 → {p q r t e f g h 
     → laid e f g h ≡ double_round s
 round_by_quarters s n hp hq hr ht he hf hg hh = rw (he, hf, hg, hh, hp, hq, hr, ht) (doubled_is s n)
 
--- the first state, from the words that were read
-pub initial_by_words : (key nonce : List ℕ) {n k0 k1 k2 k3 k4 k5 k6 k7 n0 n1 n2 : ℕ}
-    → k0 ≡ little_at 4 key 0 → k1 ≡ little_at 4 key 4 → k2 ≡ little_at 4 key 8 → k3 ≡ little_at 4 key 12
-    → k4 ≡ little_at 4 key 16 → k5 ≡ little_at 4 key 20 → k6 ≡ little_at 4 key 24 → k7 ≡ little_at 4 key 28
-    → n0 ≡ little_at 4 nonce 0 → n1 ≡ little_at 4 nonce 4 → n2 ≡ little_at 4 nonce 8
-    → 0x61707865 ∷ 0x3320646e ∷ 0x79622d32 ∷ 0x6b206574 ∷ k0 ∷ k1 ∷ k2 ∷ k3 ∷ k4 ∷ k5 ∷ k6 ∷ k7 ∷ n ∷ n0 ∷ n1 ∷ n2 ∷ [] ≡ initial key n nonce
-unfolding initial words
-initial_by_words key nonce a b c d e f g h i j k = rw (a, b, c, d, e, f, g, h, i, j, k)
+-- the words of some bytes, from what a closure that stays as it is gave at each index
+words_from : {F : Type 0} (g : Mut F (ℕ × Unit {0}) ℕ) (f : F) (ws l : List ℕ) → ((i y : ℕ) (q : F) → Called g f (i, tt) y q → (y ≡ little_at 4 l (4 * i)) × (q ≡ f)) → (i n : ℕ) → IsFromFnResultFrom g f ws i n → (k : ℕ) → k < n → get_or ws (i + k) 0 ≡ little_at 4 l (4 * (i + k))
+words_from g f ws l step i zero c k h = absurd (omega arith)
+words_from g f ws l step i (suc n) c zero h =
+    let e : i + 0 ≡ i = omega arith in
+    rw e (c.2.1 0 ∙ (step i c.1 c.0 c.3).0)
+words_from {F} g f ws l step i (suc n) c (suc k) h =
+    let e : i + suc k ≡ i + 1 + k = omega arith in
+    rw e (words_from g f ws l step (i + 1) n (subst (λ (z : F). IsFromFnResultFrom g z ws (i + 1) n) (step i c.1 c.0 c.3).1 c.4) k (omega arith))
+
+words_at : (n o : ℕ) (l ws : List ℕ) → length ws ≡ n → ((i : ℕ) → i < n → get_or ws i 0 ≡ little_at 4 l (o + 4 * i)) → ws ≡ words n l o
+unfolding words
+words_at zero o l [] e h = refl
+words_at zero o l (w ∷ ws) e h = absurd (omega arith)
+words_at (suc n) o l [] e h = absurd (omega arith)
+words_at (suc n) o l (w ∷ ws) e h =
+    let z : o + 4 * 0 ≡ o = omega arith in
+    let first : w ≡ little_at 4 l o = h 0 (omega arith) ∙ ap (little_at 4 l) z in
+    let rest : ws ≡ words n l (o + 4) =
+    words_at n (o + 4) l ws (omega arith)
+    (λ i k. let s : o + 4 * suc i ≡ o + 4 + 4 * i = omega arith in h (suc i) (omega arith) ∙ ap (little_at 4 l) s)
+    in
+    cc
+
+pub words_read : {F : Type 0} (g : Mut F (ℕ × Unit {0}) ℕ) (f : F) (ws l : List ℕ) (n : ℕ) → ((i y : ℕ) (q : F) → Called g f (i, tt) y q → (y ≡ little_at 4 l (4 * i)) × (q ≡ f)) → IsFromFnResult g f ws n → ws ≡ words n l 0
+words_read g f ws l n step c =
+    words_at n 0 l ws c.long
+    (λ i h. let e : 0 + i ≡ i = omega arith in let s : 4 * (0 + i) ≡ 0 + 4 * i = omega arith in ap (λ (k : ℕ). get_or ws k 0) (sym e) ∙ words_from g f ws l step 0 n c.each i h ∙ ap (little_at 4 l) s)
 
 -- ---- the sums of two states, as bytes
 

@@ -1,153 +1,108 @@
 // Replays RFC 8439's vectors: a line is a name, a key, a counter, a nonce, a text and what it becomes under the keystream.
 #![tactic(auto)]
 
-ghost use Rattle.std.specs.Prelude.{◌<◌, ◌≤◌, length, IfOk};
+use lines::{Fields, Lines, Tally};
+use std::{fmt, io};
 
-use lines::Got;
-use std::io;
-use std::num::wrapping_add_u32;
+// The bytes that a call of the block function gives.
+const BLOCK: usize = 64;
 
-// A line's fields, read; ok is false where one of them is not what it should be.
-#[derive(Clone, Copy)]
+// Under which keystream a text is.
+#[derive(Drop)]
 struct Vector {
-    ok: bool,
     key: [u8; 32],
     counter: u32,
     nonce: [u8; 12],
 }
 
-// As much of what is left as a block covers.
-fn chunk(left: usize) -> usize
-    requires { 0 < left }
-    ensures { (0 < result) × (result ≤ left) × (result ≤ 64) }
-{
-    if left < 64 { left } else { 64 }
+// What came of a line.
+#[derive(Clone, Copy, PartialEq, Eq)]
+enum Outcome {
+    NotAVector,
+    Differs,
+    Same,
+    SameBlock,
 }
 
-// The first n bytes of a buffer under the keystream, block after block.
-fn cipher(buf: &mut [u8], n: usize, v: Vector)
-    requires { n ≤ length buf.old }
-{
-    let key = v.key;
-    let nonce = v.nonce;
-    let mut counter = v.counter;
-    let mut from = 0;
-    while from < n {
-        let m = chunk(n - from);
-        keystream::mask(buf, from, m, &key, counter, &nonce);
-        counter = wrapping_add_u32(counter, 1);
-        from += m;
+impl fmt::Display for Outcome {
+    fn fmt<W: fmt::Write>(&self, f: &mut fmt::Formatter<W>) -> fmt::Result {
+        f.write_str(match self {
+            Outcome::NotAVector => "not a vector",
+            Outcome::Differs => "differs",
+            Outcome::Same => "same",
+            Outcome::SameBlock => "same, as a block too",
+        })
     }
 }
 
-fn is(got: Got, want: u64) -> bool {
-    let Got::Of(n) = got else {
-        return false;
-    };
-    n == want
+// A text under the keystream, block after block.
+fn cipher(text: &mut [u8], v: &Vector) {
+    let mut counter = v.counter;
+    for part in text.chunks_mut(BLOCK) {
+        let n = part.len().min(BLOCK);
+        keystream::mask(part, 0, n, &v.key, counter, &v.nonce);
+        counter = counter.wrapping_add(1);
+    }
 }
 
-// A field as a count of bytes or a counter; 2 ^ 32 where it is neither.
-fn small(got: Got) -> u64
-    ensures { result ≤ 4294967296 }
-{
-    let Got::Of(n) = got else {
-        return 4294967296;
-    };
-    if n < 4294967296 { n } else { 4294967296 }
-}
-
-// The key, counter and nonce that stand from a place on.
-fn vector_at(text: &[u8], at: usize) -> Vector {
+// The key, counter and nonce that the next fields are.
+fn vector_of(fields: &mut Fields) -> Option<Vector> {
     let mut key = [0u8; 32];
     let mut nonce = [0u8; 12];
-    let key_ok = is(lines::bytes(lines::field(text, at), &mut key), 32);
-    let second = lines::after(text, at);
-    let counter = small(lines::number(lines::field(text, second)));
-    let third = lines::after(text, second);
-    let nonce_ok = is(lines::bytes(lines::field(text, third), &mut nonce), 12);
-    if 4294967295 < counter {
-        return Vector {
-            ok: false,
-            key,
-            counter: 0,
-            nonce,
-        };
+    let key_len = fields.bytes(&mut key)?;
+    let counter = u32::try_from(fields.number()?).ok()?;
+    let nonce_len = fields.bytes(&mut nonce)?;
+    if key_len != key.len() || nonce_len != nonce.len() {
+        return None;
     }
-    Vector {
-        ok: key_ok & nonce_ok,
+    Some(Vector {
         key,
-        counter: counter as u32,
+        counter,
         nonce,
-    }
+    })
 }
 
-// Whether the text at a place becomes what stands after it.
-fn agrees(text: &[u8], at: usize, v: Vector) -> bool {
-    let mut buf = [0u8; 512];
+// Whether the next field becomes the one after it; and whether that is a whole block, and the block function gives it.
+fn compared(fields: &mut Fields, v: &Vector) -> Outcome {
+    let mut text = [0u8; 512];
     let mut want = [0u8; 512];
-    let n = small(lines::bytes(lines::field(text, at), &mut buf));
-    let m = small(lines::bytes(lines::field(text, lines::after(text, at)), &mut want));
-    if 512 < n {
-        return false;
+    let (Some(n), Some(m)) = (fields.bytes(&mut text), fields.bytes(&mut want)) else {
+        return Outcome::Differs;
+    };
+    cipher(&mut text[..n], v);
+    if text[..n] != want[..m] {
+        return Outcome::Differs;
     }
-    if n != m {
-        return false;
+    let stream = keystream::block(&v.key, v.counter, &v.nonce);
+    if want[..m] == stream[..] {
+        Outcome::SameBlock
+    } else {
+        Outcome::Same
     }
-    cipher(&mut buf, n as usize, v);
-    wire::same_bytes(&buf, &want)
 }
 
-// Whether the vector at a place is a whole block, and the block function gives it.
-fn block_agrees(text: &[u8], at: usize, v: Vector) -> bool {
-    let mut want = [0u8; 64];
-    if is(lines::bytes(lines::field(text, at), &mut want), 64) {
-        let key = v.key;
-        let nonce = v.nonce;
-        let stream = keystream::block(&key, v.counter, &nonce);
-        return wire::same_bytes(&stream, &want);
+// What came of the line whose fields after its name are these.
+fn outcome_of(fields: &mut Fields) -> Outcome {
+    match vector_of(fields) {
+        Some(v) => compared(fields, &v),
+        None => Outcome::NotAVector,
     }
-    false
-}
-
-// Prints what came of the line at a place; 1 where it agrees, else 0.
-fn run_line(out: &impl Print, text: &[u8], at: usize) -> io::Result<u64>
-    ensures { IfOk result (λ n. n ≤ 1) }
-{
-    let name = lines::field(text, at);
-    let key_at = lines::after(text, at);
-    let v = vector_at(text, key_at);
-    let text_at = lines::after(text, lines::after(text, lines::after(text, key_at)));
-    out.write_all(name)?;
-    if !v.ok {
-        out.write_all(b": not a vector\n")?;
-        return Ok(0);
-    }
-    if !agrees(text, text_at, v) {
-        out.write_all(b": differs\n")?;
-        return Ok(0);
-    }
-    if block_agrees(text, lines::after(text, text_at), v) {
-        out.write_all(b": same, as a block too\n")?;
-        return Ok(1);
-    }
-    out.write_all(b": same\n")?;
-    Ok(1)
 }
 
 // Runs each line, and prints how many agree.
 fn run(out: &impl Print, text: &[u8]) -> io::Result<()> {
-    let mut at = 0;
-    let mut all: u64 = 0;
-    let mut same: u64 = 0;
-    while at < text.len() {
-        same += run_line(out, text, at)?;
-        all += 1;
-        at = lines::after_line(text, at);
+    let mut tally = Tally::new();
+    for line in Lines::of(text) {
+        let mut fields = line;
+        out.write_all(fields.next_field())?;
+        let outcome = outcome_of(&mut fields);
+        println!(out; ": {outcome}")?;
+        tally.count(outcome == Outcome::Same || outcome == Outcome::SameBlock);
     }
-    println!(out; "{all} vectors, {same} agree")
+    println!(out; "{} vectors, {} agree", tally.all, tally.agree)
 }
 
+// A main of its own, for the buffer's size is this list's.
 fn main(rt: HostRuntime) -> io::Result<()> {
     let mut text = [0u8; 8192];
     let n = lines::read_full(&mut rt.stdin(), &mut text)?;

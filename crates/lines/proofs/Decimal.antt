@@ -9,7 +9,7 @@ use lib.Dec.{ltb}
 use lib.ListN.{length, get_or, drop, drop_of_length-le}
 use lib.Seq.{drop-cons}
 use borrow.Author.Tests.{lt-ltb, le-ltb, eq-eqb, ne_eqb}
-use Rattle.lines.specs.declared.Got.TheVariants as As
+use Rattle.std.specs.Prelude.{Some, None}
 use Rattle.lines.specs.Digits.{digit_of, decimals, value_from, number_from, decimal_of}
 
 -- more digits make no smaller number
@@ -20,12 +20,12 @@ value_grows (b ∷ bs) x = omega (arith, value_grows bs (x * 10 + digit_of b))
 
 module _ (l : List ℕ) (i x : ℕ) where
   -- what is no decimal digit
-  pub number_refused : i < length l → 9 < digit_of (get_or l i 0) → As.Bad ≡ number_from x (drop i l)
+  pub number_refused : i < length l → 9 < digit_of (get_or l i 0) → None ≡ number_from x (drop i l)
   unfolding number_from decimals
   number_refused h g = rw (drop-cons l i 0 h, le-ltb (digit_of (get_or l i 0)) 10 g)
 
   -- a number that is too large
-  pub number_large : i < length l → 2 ^ 64 ≤ x * 10 + digit_of (get_or l i 0) → As.Bad ≡ number_from x (drop i l)
+  pub number_large : i < length l → 2 ^ 64 ≤ x * 10 + digit_of (get_or l i 0) → None ≡ number_from x (drop i l)
   unfolding number_from decimals value_from
   number_large h g =
       let d : ℕ = digit_of (get_or l i 0) in
@@ -38,12 +38,12 @@ module _ (l : List ℕ) (i x : ℕ) where
   number_goes h g = rw (add-one i, drop-cons l i 0 h, lt-ltb (digit_of (get_or l i 0)) 10 (omega arith))
 
   -- no digit is left
-  pub number_end : length l ≤ i → x < 2 ^ 64 → As.Of x ≡ number_from x (drop i l)
+  pub number_end : length l ≤ i → x < 2 ^ 64 → Some x ≡ number_from x (drop i l)
   unfolding number_from decimals value_from
   number_end h g = rw (drop_of_length-le l {i = i} h, lt-ltb x (2 ^ 64) g)
 
 module _ (l : List ℕ) where
-  pub number_none : length l ≡ 0 → As.Bad ≡ decimal_of l
+  pub number_none : length l ≡ 0 → None ≡ decimal_of l
   unfolding decimal_of
   number_none h = rw (eq-eqb (length l) 0 h)
 

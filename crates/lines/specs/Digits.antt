@@ -1,8 +1,6 @@
 -- What a field is read as: bytes, as two hex digits each, or a number, as decimal digits.
-use Rattle.std.specs.Prelude.{Bool, true, cond, ◌&&◌, List, [], ◌∷◌, ℕ, ◌+◌, ◌-◌, ◌*◌, ◌^◌, ltb, leb, eqb, length}
+use Rattle.std.specs.Prelude.{Bool, true, cond, Option, Some, None, ◌&&◌, List, [], ◌∷◌, ℕ, ◌+◌, ◌-◌, ◌*◌, ◌^◌, ltb, leb, eqb, length}
 use Rattle.wire.specs.Parts.{splice}
-use Rattle.lines.specs.declared.Got.{Got}
-use Rattle.lines.specs.declared.Got.TheVariants as As
 
 -- a byte is one of those from low to high
 abbrev pub between : ℕ → ℕ → ℕ → Bool
@@ -32,8 +30,8 @@ unfoldable pub is_bytes : List ℕ → ℕ → Bool
 is_bytes field room = all_bytes (pairs_of field) && leb (length (pairs_of field)) room
 
 -- how many bytes a field is, read into a buffer with so much room
-unfoldable pub bytes_in : List ℕ → ℕ → Got
-bytes_in field room = cond (is_bytes field room) (As.Of (length (pairs_of field))) As.Bad
+unfoldable pub bytes_in : List ℕ → ℕ → Option ℕ
+bytes_in field room = cond (is_bytes field room) (Some (length (pairs_of field))) None
 
 -- the buffer with a field's bytes at its start; as it was where the field is refused
 unfoldable pub with_bytes : List ℕ → List ℕ → List ℕ
@@ -50,9 +48,9 @@ value_from x [] = x
 value_from x (b ∷ bs) = value_from (x * 10 + digit_of b) bs
 
 -- that number, where all are decimal digits and it is below 2 ^ 64
-unfoldable pub number_from : ℕ → List ℕ → Got
-number_from x l = cond (decimals l && ltb (value_from x l) (2 ^ 64)) (As.Of (value_from x l)) As.Bad
+unfoldable pub number_from : ℕ → List ℕ → Option ℕ
+number_from x l = cond (decimals l && ltb (value_from x l) (2 ^ 64)) (Some (value_from x l)) None
 
 -- the number that a field is; an empty one is none
-unfoldable pub decimal_of : List ℕ → Got
-decimal_of l = cond (eqb (length l) 0) As.Bad (number_from 0 l)
+unfoldable pub decimal_of : List ℕ → Option ℕ
+decimal_of l = cond (eqb (length l) 0) None (number_from 0 l)

@@ -1,4 +1,5 @@
 -- The laws.
+pub mod Arrivals
 pub mod Deliveries
 pub mod OfStore
 pub mod Pieces

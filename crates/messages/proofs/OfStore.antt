@@ -19,7 +19,7 @@ use Rattle.reassembly.specs.Calls.{lent, After}
 use Rattle.reassembly.specs.Standing.{AllAgree}
 use Rattle.reassembly.proofs.Promised.{first_promise, follow_promise}
 use Rattle.reassembly.proofs.Brought.{Sober, from_sober, reply_number, reply_some, laid_some}
-use Rattle.messages.specs.declared.Received.{Received}
+use Rattle.messages.specs.Received.{Received}
 use Rattle.messages.specs.Delivery.{delivery_with, nothing, whole_at, rebuilt_by, rebuilt, delivered_by, message_in}
 use Rattle.messages.specs.OfStore.{out_bytes, received_for, OfStore, FirstOfStore, FollowOfStore}
 

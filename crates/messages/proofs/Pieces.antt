@@ -7,9 +7,9 @@ use Prim.Native.Nat.{ℕ}
 use lib.Dec.{eqb}
 use Rattle.wire.specs.Parts.{part}
 use Rattle.blocks.specs.declared.Part.{Part}
-use Rattle.blocks.specs.declared.Extent.{Extent}
-use Rattle.blocks.specs.declared.Extent.TheVariants as End
-use Rattle.blocks.specs.declared.Read.{Read}
+use Rattle.blocks.specs.Outcomes.{Extent}
+use Rattle.blocks.specs.Outcomes as End
+use Rattle.blocks.specs.Outcomes.{Read}
 use Rattle.blocks.specs.Names.{message_type, message_id, message_expiration, follow_on_number, follow_on_last, follow_on_id}
 use Rattle.blocks.specs.Reading.{block_read}
 use Rattle.reassembly.specs.Store.{Piece, first, follow, Rebuilt}
@@ -18,7 +18,7 @@ use Rattle.reassembly.specs.Shares.{first_call, follow_on_call}
 use Rattle.reassembly.specs.Stands.{label_of, reply_for, laid_out}
 use Rattle.reassembly.proofs.Brought.{Sober, reply_number, reply_some}
 use Rattle.reassembly.proofs.OwnShare.{first_label_lem, follow_label}
-use Rattle.messages.specs.declared.Received.{Received}
+use Rattle.messages.specs.Received.{Received}
 use Rattle.messages.specs.Delivery.{Delivery, delivery_with, rebuilt_by, rebuilt, delivered_by, delivered}
 use Rattle.messages.specs.OfStore.{received_for}
 use Rattle.messages.proofs.Deliveries.{by_kind, other_is}

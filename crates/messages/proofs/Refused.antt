@@ -8,8 +8,8 @@ use lib.Dec.{eqb}
 use borrow.Author.Tests.{eqb-true, ne_eqb}
 use types.Run.{OneOf}
 use Rattle.blocks.specs.declared.Part.{Part}
-use Rattle.blocks.specs.declared.Extent.{Extent}
-use Rattle.blocks.specs.declared.Extent.TheVariants as End
+use Rattle.blocks.specs.Outcomes.{Extent}
+use Rattle.blocks.specs.Outcomes as End
 use Rattle.blocks.specs.Names.{message_id, follow_on_id}
 use Rattle.blocks.specs.Reading.{read_at}
 use Rattle.blocks.proofs.Refused.{unread, read_numbers_lem}
@@ -18,7 +18,7 @@ use Rattle.reassembly.specs.Calls.{Lent, After, after}
 use Rattle.reassembly.specs.Careful.{Careful}
 use Rattle.reassembly.proofs.Refusals.{careful_first, careful_follow_on}
 use Rattle.reassembly.proofs.Refused.{follow_on_numbers, of_first, first_numbers_lem, follow_on_numbers_lem}
-use Rattle.messages.specs.declared.Received.{Received}
+use Rattle.messages.specs.Received.{Received}
 use Rattle.messages.specs.Delivery.{Delivery, delivery_with, nothing, whole_at, rebuilt_by, rebuilt, first_label, follow_on_label, delivered_by, delivered_end, delivered}
 use Rattle.messages.proofs.Deliveries.{by_kind, other_is}
 

@@ -2,15 +2,15 @@
 use Rattle.std.specs.Prelude.{false, cond, List, [], ℕ, eqb}
 use Rattle.wire.specs.Parts.{part}
 use Rattle.blocks.specs.declared.Part.{Part}
-use Rattle.blocks.specs.declared.Extent.{Extent}
-use Rattle.blocks.specs.declared.Extent.TheVariants as End
-use Rattle.blocks.specs.declared.Read.{Read}
+use Rattle.blocks.specs.Outcomes.{Extent}
+use Rattle.blocks.specs.Outcomes as End
+use Rattle.blocks.specs.Outcomes.{Read}
 use Rattle.blocks.specs.Names.{message_type, message_id, message_expiration, follow_on_number, follow_on_last, follow_on_id}
 use Rattle.reassembly.specs.declared.Label.{Label}
 use Rattle.reassembly.specs.declared.Reply.{Reply}
 use Rattle.reassembly.specs.Calls.{Lent, After}
 use Rattle.reassembly.specs.Shares.{first_call, follow_on_call}
-use Rattle.messages.specs.declared.Received.{Received}
+use Rattle.messages.specs.Received.{Received}
 
 -- What a call leaves: what was received, and what became of the bytes that it was lent.
 pub record Delivery : Type 0 where

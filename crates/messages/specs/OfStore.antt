@@ -9,7 +9,7 @@ use Rattle.reassembly.specs.Neighbours.{NeighboursAnswer, step_from}
 use Rattle.reassembly.specs.Calls.{lent}
 use Rattle.reassembly.specs.Stands.{laid_out}
 use Rattle.reassembly.specs.Standing.{neighbours_of, AllMade}
-use Rattle.messages.specs.declared.Received.{Received}
+use Rattle.messages.specs.Received.{Received}
 use Rattle.messages.specs.Delivery.{Delivery, nothing, delivered_by, message_in}
 
 -- the bytes of what the store brings out

@@ -9,7 +9,7 @@ use borrow.Author.Tests.{eqb-true}
 use Rattle.header.specs.declared.Fields.{Fields}
 use Rattle.header.specs.declared.HeaderKind.{HeaderKind}
 use Rattle.header.specs.declared.HeaderKind.TheVariants.{SessionRequest, SessionCreated, SessionConfirmed, Data, PeerTest, Retry, TokenRequest, HolePunch}
-use Rattle.header.specs.declared.Answer.{Answer}
+use Rattle.std.specs.Prelude.{Result}
 use Rattle.header.specs.Kinds.{is_listed}
 use Rattle.header.specs.Unmasking.{unmasked}
 use Rattle.header.specs.Reading.{read_number, header_at, header_answer}
@@ -88,4 +88,4 @@ module _ (k1 k2 p : List ℕ) where
 
   -- taken, the lent numbers are the header's
   pub answer_numbers_lem : (out : List ℕ) → read_number k1 k2 p ≡ 0 → answer_numbers (header_answer k1 k2 p) out ≡ kind_numbers (header_at (unmasked k1 k2 p))
-  answer_numbers_lem out e = ap (λ (a : Answer). answer_numbers a out) (read_answer_lem k1 k2 p e)
+  answer_numbers_lem out e = ap (λ (a : Result HeaderKind ℕ). answer_numbers a out) (read_answer_lem k1 k2 p e)

@@ -1,11 +1,9 @@
 -- A header by numbers, as the C calls pass it: type, version, network id, fragment, count, flag, packet number, destination id, source id, token, place of the key. What a type does not have is 0.
-use Rattle.std.specs.Prelude.{cond, not, List, [], ◌∷◌, ℕ, ◌<◌, ◌^◌, eqb, get_or}
+use Rattle.std.specs.Prelude.{Result, Ok, Err, cond, not, List, [], ◌∷◌, ℕ, ◌<◌, ◌^◌, eqb, get_or}
 use Rattle.header.specs.declared.Long.{Long}
 use Rattle.header.specs.declared.Fields.{Fields}
 use Rattle.header.specs.declared.HeaderKind.{HeaderKind}
 use Rattle.header.specs.declared.HeaderKind.TheVariants.{SessionRequest, SessionCreated, SessionConfirmed, Data, PeerTest, Retry, TokenRequest, HolePunch}
-use Rattle.header.specs.declared.Answer.{Answer}
-use Rattle.header.specs.declared.Answer.TheVariants.{Header, Refused}
 use Rattle.header.specs.Kinds.{is_keyed}
 
 -- a header of 32 or 64 bytes, with the place of its key
@@ -24,14 +22,14 @@ kind_numbers (TokenRequest l) = long_numbers 10 0 l
 kind_numbers (HolePunch l) = long_numbers 11 0 l
 
 -- the number that comes back: 0, or the refusal
-abbrev pub answer_number : Answer → ℕ
-answer_number (Header k) = 0
-answer_number (Refused r) = r
+abbrev pub answer_number : Result HeaderKind ℕ → ℕ
+answer_number (Ok k) = 0
+answer_number (Err r) = r
 
 -- the lent numbers afterwards: the header's, or as they were
-abbrev pub answer_numbers : Answer → List ℕ → List ℕ
-answer_numbers (Header k) out = kind_numbers k
-answer_numbers (Refused r) out = out
+abbrev pub answer_numbers : Result HeaderKind ℕ → List ℕ → List ℕ
+answer_numbers (Ok k) out = kind_numbers k
+answer_numbers (Err r) out = out
 
 -- the fields by numbers; any flag but 0 is set
 abbrev pub fields_by : ℕ → ℕ → ℕ → ℕ → ℕ → ℕ → ℕ → ℕ → ℕ → ℕ → Fields

@@ -4,7 +4,7 @@ use mathlib.Core.List.{List, [], ◌∷◌}
 use Prim.Native.Nat.{ℕ}
 use borrow.Author.Tests.{ne_eqb}
 use Rattle.reassembly.specs.Calls.{Lent}
-use Rattle.messages.specs.declared.Received.{Received}
+use Rattle.messages.specs.Received.{Received}
 use Rattle.messages.specs.Delivery.{Delivery, delivery_with}
 use Rattle.numbers_outcomes.specs.declared.Outcome.{Outcome}
 use Rattle.numbers_outcomes.specs.Outcomes.{outcome}

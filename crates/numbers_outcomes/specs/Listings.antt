@@ -1,6 +1,6 @@
 -- A listing's answer by numbers.
 use Rattle.std.specs.Prelude.{cond, eqb}
-use Rattle.blocks_listing.specs.declared.Answer.{Answer}
+use Rattle.blocks_listing.specs.Answers.{Answer}
 use Rattle.numbers_outcomes.specs.declared.Outcome.{Outcome}
 
 -- 0 and the count, or the refusal and its place

@@ -2,29 +2,48 @@
 #![tactic(auto)]
 
 ghost use Rattle.std.specs.Prelude.{◌≡◌};
-ghost use Rattle.numbers_outcomes.specs.Outcomes.{write_outcome};
+ghost use Rattle.numbers_outcomes.specs.Outcomes.{outcome, write_outcome};
+ghost use Rattle.refusals.specs.Numbers.{number, numbered};
 
-use blocks::Written;
+use refusals::Refusal;
 
 // 0 and a length or a place; or the number of the refusal and, where a block is read, its place.
 #[repr(C)]
-#[derive(Clone, Copy)]
+#[derive(Clone, Copy, Debug, PartialEq, Eq)]
 pub struct Outcome {
     pub number: u64,
     pub value: u64,
 }
 
-pub fn outcome_of(w: Written) -> Outcome
-    ensures { result ≡ write_outcome w }
-{
-    match w {
-        Written::Length { count } => Outcome {
+impl Outcome {
+    // 0 and a value.
+    // as u64: std has no From of a usize for it.
+    pub fn done(value: usize) -> Outcome
+        ensures { result ≡ outcome 0 value }
+    {
+        Outcome {
             number: 0,
-            value: count as u64,
-        },
-        Written::Refused { number } => Outcome {
-            number: number as u64,
-            value: 0,
-        },
+            value: value as u64,
+        }
+    }
+
+    // The number of a refusal, and a value.
+    pub fn refused(refusal: Refusal, value: usize) -> Outcome
+        ensures { result ≡ outcome (number refusal) value }
+    {
+        Outcome {
+            number: u64::from(refusal.number()),
+            value: value as u64,
+        }
+    }
+}
+
+// 0 and what was answered; or the number of the refusal, and 0.
+pub fn outcome_of(answer: Result<usize, Refusal>) -> Outcome
+    ensures { result ≡ write_outcome (numbered answer) }
+{
+    match answer {
+        Ok(value) => Outcome::done(value),
+        Err(refusal) => Outcome::refused(refusal, 0),
     }
 }

@@ -5,7 +5,7 @@ use mathlib.Core.List.{List, [], ◌∷◌}
 use Prim.Native.Nat.{ℕ, suc, ◌≤◌, ◌<◌}
 use native.Mathlib.Omega.{arith}
 use lib.ListN.{length}
-use Rattle.header.specs.declared.Answer.TheVariants as Header
+use Rattle.std.specs.Prelude.{Err}
 use Rattle.wire.specs.Parts.{part, splice}
 use Rattle.wire.specs.Numbers.{little, big, big_at}
 use Rattle.wire.proofs.Slices.{splice_none}
@@ -22,7 +22,7 @@ use Rattle.reassembly.specs.Shares.{share_of, share_of_room, follow_on_call}
 use Rattle.reassembly.proofs.Branches.{follow_51}
 use Rattle.reassembly.proofs.Own.{follow_above}
 use Rattle.reassembly.proofs.OwnShare.{follow_stays}
-use Rattle.messages.specs.declared.Received.{Received}
+use Rattle.messages.specs.Received.{Received}
 use Rattle.messages.specs.Delivery.{Delivery, delivery_with, nothing, rebuilt_by, rebuilt, delivered_by, delivered}
 use Rattle.messages.proofs.Refused.{nothing_number, nothing_start}
 use Rattle.blocks_listing.specs.Listing.{no, entry, entries_after}
@@ -89,8 +89,8 @@ is_refusal n k e z = omega arith
 abbrev three : List ℕ
 three = 1 ∷ 2 ∷ 3 ∷ []
 
-pub header_refused : answer_numbers (Header.Refused 20) three ≡ three
-header_refused = demand1_calls.header_numbers (Header.Refused 20) three (is_refusal 20 19 refl)
+pub header_refused : answer_numbers (Err 20) three ≡ three
+header_refused = demand1_calls.header_numbers (Err 20) three (is_refusal 20 19 refl)
 
 pub block_refused : read_numbers (read_refused 8 0) three ≡ three
 block_refused = demand1_calls.block_numbers_lem (read_refused 8 0) three (is_refusal 8 7 refl)
@@ -168,7 +168,7 @@ module _ (rec room out : List ℕ) (long : record_size ≤ length rec) (wide : r
     told_51 =
         by_reply n 51
         (follow_stays (lent rec room out) n long wide one label second (7 ∷ []) (bare 51)
-        (sym (follow_51 (share_of rec n) (share_of_room room n) out label second (7 ∷ []) (bare 51) refl refl refl)))
+        (sym (follow_51 (share_of rec n) (share_of_room room n) out label second (7 ∷ []) refl refl)))
         refl
 
     refused_51 : StoreRefuses (deliver_call number_0 3 (lent rec room out) n second three).outcome.number

@@ -1,4 +1,5 @@
 -- A refusal of each kind of call, computed, and what demand 1 says of it: no part is empty. Assumes nothing.
+use Rattle.std.specs.Prelude.{Err}
 use mathlib.Core.Path.{◌≡◌, refl, sym, ap}
 use mathlib.Core.Bool.{false}
 use mathlib.Core.List.{List, [], ◌∷◌}
@@ -8,12 +9,11 @@ use lib.ListN.{length, replicate}
 use Rattle.wire.specs.Parts.{part}
 use Rattle.wire.specs.Numbers.{Bytes, little, little_at, big, big_at}
 use Rattle.header.specs.declared.Fields.{Fields}
-use Rattle.header.specs.declared.Answer.TheVariants as Header
+use Rattle.std.specs.Prelude.{Err}
 use Rattle.header.specs.Kinds.{is_listed}
 use Rattle.header.specs.Reading.{read_number, header_answer, packet_after_read}
 use Rattle.header.specs.Writing.{write_number, packet_after_write}
-use Rattle.blocks.specs.declared.Extent.TheVariants as End
-use Rattle.blocks.specs.declared.Written.TheVariants as Wrote
+use Rattle.blocks.specs.Outcomes as End
 use Rattle.blocks.specs.Layout.{sum, fits}
 use Rattle.blocks.specs.Table.{look, widths, after_fields, typed, field_length}
 use Rattle.blocks.specs.Extent.{address, ignores_size, plain_length, taken_at, extent_at}
@@ -48,7 +48,7 @@ store_refusal n k e h = (λ z. omega arith, λ z. omega arith)
 abbrev three : List ℕ
 three = 1 ∷ 2 ∷ 3 ∷ []
 
-pub no_packet_lem : header_answer three three three ≡ Header.Refused 20
+pub no_packet_lem : header_answer three three three ≡ Err 20
 unfolding header_answer read_number
 no_packet_lem = refl
 
@@ -92,7 +92,7 @@ list_stays = (demand1.blocks_listed two_blocks one_record 10 3 no_record).1
 abbrev two : List ℕ
 two = 7 ∷ 7 ∷ []
 
-pub no_room : writing 15 [] [] 2 ≡ Wrote.Refused 30
+pub no_room : writing 15 [] [] 2 ≡ Err 30
 unfolding writing is_proper fits size_of carried_bytes field_length widths after_fields typed look sum
 no_room = refl
 
@@ -120,7 +120,7 @@ pub no_report : (report_there (replicate tracker_size 0)).number ≡ 41
 unfolding report_there tracker_short tracker_at ack_info report_of mark refused_report little_at little part
 no_report = refl
 
-pub no_ack : ack_writing (report_there (replicate tracker_size 0)) 3 ≡ Wrote.Refused 41
+pub no_ack : ack_writing (report_there (replicate tracker_size 0)) 3 ≡ Err 41
 unfolding ack_writing report_there tracker_short tracker_at ack_info report_of mark refused_report little_at little part
 no_ack = refl
 
@@ -153,7 +153,7 @@ module _ (rec room out : List ℕ) (long : record_size ≤ length rec) (wide : r
     unfolding bad_size bare
     no_bytes =
         ap (λ (x : After). x.reply.number)
-        (Own.first_stays (lent rec room out) n long wide one label second [] (bare 50) (sym (first_50 (share_of rec n) (share_of_room room n) out label second [] (bare 50) refl refl)))
+        (Own.first_stays (lent rec room out) n long wide one label second [] (bare 50) (sym (first_50 (share_of rec n) (share_of_room room n) out label second [] refl)))
 
     pub first_stays : first_call (lent rec room out) n label second [] ≡ after (first_call (lent rec room out) n label second []).reply (lent rec room out)
     first_stays =
@@ -164,7 +164,7 @@ module _ (rec room out : List ℕ) (long : record_size ≤ length rec) (wide : r
     unfolding bad_size off_number bare
     no_number =
         ap (λ (x : After). x.reply.number)
-        (Own.follow_stays (lent rec room out) n long wide one label second (7 ∷ []) (bare 51) (sym (follow_51 (share_of rec n) (share_of_room room n) out label second (7 ∷ []) (bare 51) refl refl refl)))
+        (Own.follow_stays (lent rec room out) n long wide one label second (7 ∷ []) (bare 51) (sym (follow_51 (share_of rec n) (share_of_room room n) out label second (7 ∷ []) refl refl)))
 
     pub follow_on_stays : follow_on_call (lent rec room out) n label second (7 ∷ []) ≡ after (follow_on_call (lent rec room out) n label second (7 ∷ [])).reply (lent rec room out)
     follow_on_stays =

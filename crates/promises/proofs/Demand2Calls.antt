@@ -12,10 +12,9 @@ use Rattle.blocks.specs.Table.{widths}
 use Rattle.blocks.specs.Names.{ack_fields}
 use Rattle.blocks.specs.Reading.{bytes_at, block_read}
 use Rattle.acks.specs.declared.Tracker.{Tracker}
-use Rattle.acks.specs.declared.AckInfo.{AckInfo}
 use Rattle.acks.specs.History.{Packets, answer_to, among, received, highest_seen, newest}
 use Rattle.acks.specs.Tracking.{is_duplicate, register_of}
-use Rattle.acks.specs.Reporting.{silent, ack_info, pair_bytes}
+use Rattle.acks.specs.Reporting.{Report, silent, ack_info, pair_bytes}
 use Rattle.acks.specs.Recorded.{tracker_size, tracker_short, tracker_at, register_there, record_all, duplicate_there, report_there}
 use Rattle.acks.specs.AckBlocks.{ack_fields_of, ack_writing, ack_room}
 use Rattle.acks.proofs.Faithful.{Faithful, pairs_cut}
@@ -38,15 +37,15 @@ pub tracker_starts : TrackerStarts
 tracker_starts = (part_alike 0 tracker_size 0 tracker_size (omega arith), λ rec long. new_zeros rec (omega arith))
 
 -- a refused report
-unreported : (r : AckInfo) (out pairs room : List ℕ) → r ≡ silent → Unreported r out pairs room
+unreported : (r : Report) (out pairs room : List ℕ) → r ≡ silent → Unreported r out pairs room
 unreported r out pairs room e =
-    let n : r.number ≡ 41 = ap (λ (x : AckInfo). x.number) e ∙ silent_is_41 in
+    let n : r.number ≡ 41 = ap (λ (x : Report). x.number) e ∙ silent_is_41 in
     let stays = report_stays r out pairs (is_refusal r.number 40 n) in
-    let w = ap (λ (x : AckInfo). ack_writing x (length room)) e ∙ silent_unwritten (length room) in
+    let w = ap (λ (x : Report). ack_writing x (length room)) e ∙ silent_unwritten (length room) in
     record { is_41 = n; numbers_stay = stays.0; pairs_stay = stays.1; block_41 = ap write_outcome w; room_stays = ack_leaves r room 41 w }
 
 -- a faithful one, of a highest number of four bytes
-module _ (calls : List ℕ) (r : AckInfo) (f : Faithful (highest_seen calls) (among (received calls)) r) (small : highest_seen calls < 256 ^ 4) where
+module _ (calls : List ℕ) (r : Report) (f : Faithful (highest_seen calls) (among (received calls)) r) (small : highest_seen calls < 256 ^ 4) where
   -- what is expanded are the report's own numbers
   names : (ps list : List ℕ) → ps ≡ pair_bytes r → 255 ≤ length list → ExpandsTo (highest_seen calls) r.count ps list (newest calls)
   names ps list same long =

@@ -22,7 +22,7 @@ use Rattle.reassembly.proofs.Swept.{swept_stands, share_swept_made}
 use Rattle.reassembly.proofs.Runs.{said_of_lem}
 use Rattle.reassembly.proofs.Brought.{step_sober}
 use Rattle.reassembly.proofs.Alone.{Alone, alone}
-use Rattle.messages.specs.declared.Received.{Received}
+use Rattle.messages.specs.Received.{Received}
 use Rattle.messages.specs.Delivery.{rebuilt_by}
 use Rattle.messages.specs.OfStore.{received_for}
 use Rattle.messages.proofs.OfStore.{received_kept, received_refused, received_whole}

@@ -13,7 +13,7 @@ use Rattle.reassembly.specs.Calls.{Lent, lent, After, share_swept}
 use Rattle.reassembly.specs.Shares.{share_of, share_of_room, lent_to}
 use Rattle.reassembly.specs.Turns.{Turned, turned}
 use Rattle.reassembly.proofs.Alone.{Turns, stays_turn, call_turn, swept_turn, two_runs}
-use Rattle.messages.specs.declared.Received.{Received}
+use Rattle.messages.specs.Received.{Received}
 use Rattle.messages.specs.Delivery.{delivery_with, rebuilt_by}
 use Rattle.messages.proofs.Pieces.{piece_in, quietly, piece_delivers, Delivers, delivers}
 use Rattle.numbers_outcomes.specs.Deliveries.{delivery_outcome, delivery_numbers, delivered_at, deliver_call}

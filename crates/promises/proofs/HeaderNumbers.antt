@@ -4,7 +4,8 @@ use mathlib.Core.List.{List}
 use Prim.Native.Nat.{ℕ, ◌≤◌}
 use lib.ListN.{length}
 use Rattle.wire.specs.Numbers.{Bytes}
-use Rattle.header.specs.declared.Answer.{Answer}
+use Rattle.std.specs.Prelude.{Result}
+use Rattle.header.specs.declared.HeaderKind.{HeaderKind}
 use Rattle.header.specs.declared.Fields.{Fields}
 use Rattle.header.specs.Kinds.{need_of}
 use Rattle.header.specs.Unmasking.{packet_kind, unmasked}
@@ -51,7 +52,7 @@ module _ (k1 k2 n p out : List ℕ) (fit : NumbersInWidth n) (given : write_answ
       let both = written_is_read k1 k2 f p (in_width_long n fit) given in
       let answer = ap (header_answer k1 k2) packet ∙ both.0 in (
         ap answer_number answer,
-        ap (λ (a : Answer). answer_numbers a out) answer ∙ numbers_shown f (write_given f (length p) given).listed,
+        ap (λ (a : Result HeaderKind ℕ). answer_numbers a out) answer ∙ numbers_shown f (write_given f (length p) given).listed,
         ap (packet_after_read k1 k2) packet ∙ both.1,
       )
 

@@ -1,4 +1,5 @@
 -- The demands, proved.
+pub mod Refusals
 pub mod Acks
 pub mod Twelve
 pub mod HeaderNumbers

@@ -1,4 +1,5 @@
 -- The sender together with the far tracker, of the calls: carried over by the calls' promises at both ends. Assumes nothing.
+use Rattle.std.specs.Prelude.{Result, Ok, Err}
 use mathlib.Core.Path.{◌≡◌, refl, sym, ap, ap₂, ◌∙◌}
 use mathlib.Core.Bool.{Bool, true, false, ◌&&◌, ◌||◌, or-true, false≢true}
 use mathlib.Core.List.{List, [], ◌∷◌}
@@ -9,19 +10,16 @@ use lib.ListN.{length, drop, get_or, replicate}
 use borrow.Author.Tests.{ne_eqb}
 use Rattle.wire.specs.Parts.{part}
 use Rattle.blocks.specs.declared.Part.{Part}
-use Rattle.blocks.specs.declared.Read.{Read}
-use Rattle.blocks.specs.declared.Written.{Written}
-use Rattle.blocks.specs.declared.Written.TheVariants as Wrote
+use Rattle.blocks.specs.Outcomes.{Read}
 use Rattle.blocks.specs.Layout.{eight}
 use Rattle.blocks.specs.Names.{ack_fields}
 use Rattle.blocks.specs.Reading.{bytes_at, block_read, read_at}
 use Rattle.acks.specs.History.{among}
 use Rattle.acks.specs.Tracking.{fresh, register_of, register_all}
-use Rattle.acks.specs.Reporting.{ack_info, pair_bytes}
+use Rattle.acks.specs.Reporting.{Report, ack_info, pair_bytes}
 use Rattle.acks.specs.Recorded.{tracker_short, tracker_at, register_there}
 use Rattle.acks.specs.AckBlocks.{ack_writing, ack_room}
 use Rattle.acks.specs.declared.Tracker.{Tracker}
-use Rattle.acks.specs.declared.AckInfo.{AckInfo}
 use Rattle.acks.proofs.Histories.{registered_there_lem, reported_there}
 use Rattle.acks.proofs.InPlace.{in_place, in_place_long, in_place_small}
 use Rattle.acks.proofs.Sent.{is_written, is_read, written_is_read}
@@ -135,10 +133,10 @@ module _ (there : List ℕ) (zeros : Fresh there) where
   earlier (suc k) (arrives n ∷ run) q = earlier k run q.1
 
   -- an Ack block that was written has a length
-  length_of : (past : List Event) (room : ℕ) → (write_outcome (ack_writing (report_at there past) room)).number ≡ 0 → (w : Written) → ack_writing (report_at there past) room ≡ w → (n : ℕ) × (w ≡ Wrote.Length n)
-  length_of past room z (Wrote.Length n) e = (n, refl)
-  length_of past room z (Wrote.Refused m) e =
-      let o : m ≡ 0 = sym (ap (λ (w : Written). (write_outcome w).number) e) ∙ z in
+  length_of : (past : List Event) (room : ℕ) → (write_outcome (ack_writing (report_at there past) room)).number ≡ 0 → (w : Result ℕ ℕ) → ack_writing (report_at there past) room ≡ w → (n : ℕ) × (w ≡ Ok n)
+  length_of past room z (Ok n) e = (n, refl)
+  length_of past room z (Err m) e =
+      let o : m ≡ 0 = sym (ap (λ (w : Result ℕ ℕ). (write_outcome w).number) e) ∙ z in
       absurd (ack_refused (report_at there past) room m e o)
 
   -- what was read from such a block is a report of that moment
@@ -147,14 +145,14 @@ module _ (there : List ℕ) (zeros : Fresh there) where
   carried_says past q through count pairs c =
       let then : List Event = drop c.ago past in
       let ours : OnlyFromSender then = earlier c.ago past q in
-      let r : AckInfo = report_at there then in
+      let r : Report = report_at there then in
       let same : r ≡ ack_info (far then) = far_reports then ours in
       let l = length_of then (length c.room) c.wrote (ack_writing r (length c.room)) refl in
       let w = written_is_read r c.room l.0 l.1 in
       record { ago = c.ago; says = rw (sym same) (says r through count pairs c.room c.at c.size c.next l.0 w.0 w.1 w.2 c.read c.fed) }
     where
       says :
-          (r : AckInfo) (through count : ℕ) (pairs room : List ℕ) (at : Part) (size next n : ℕ) → r.number ≡ 0
+          (r : Report) (through count : ℕ) (pairs room : List ℕ) (at : Part) (size next n : ℕ) → r.number ≡ 0
           → read_at (ack_room r room) 0 ≡ block_read 12 (5 + length (pair_bytes r)) n (ack_fields r.through r.count) (bytes_at 8 (length (pair_bytes r)))
           → part (ack_room r room) 8 (length (pair_bytes r)) ≡ pair_bytes r
           → read_at (ack_room r room) 0 ≡ block_read 12 size next (ack_fields through count) at
@@ -175,7 +173,7 @@ module _ (there : List ℕ) (zeros : Fresh there) where
   says_carried past q through count pairs room big c =
       let then : List Event = drop c.ago past in
       let ours : OnlyFromSender then = earlier c.ago past q in
-      let r : AckInfo = ack_info (far then) in
+      let r : Report = ack_info (far then) in
       let same : report_at there then ≡ r = far_reports then ours in
       let two : (length (pair_bytes r) % 2 ≡ 0) × (length (pair_bytes r) ≤ 254) = report_paired (far then) c.says.reported in
       let holds : 8 + length (pair_bytes r) ≤ length room = omega (arith, two.1, big) in
@@ -185,14 +183,14 @@ module _ (there : List ℕ) (zeros : Fresh there) where
       record {
         ago = c.ago;
         room = room;
-        wrote = ap (λ (x : AckInfo). (write_outcome (ack_writing x (length room))).number) same ∙ ap (λ (x : Written). (write_outcome x).number) w;
+        wrote = ap (λ (x : Report). (write_outcome (ack_writing x (length room))).number) same ∙ ap (λ (x : Result ℕ ℕ). (write_outcome x).number) w;
         at = bytes_at 8 (length (pair_bytes r));
         size = 5 + length (pair_bytes r);
         next = 8 + length (pair_bytes r);
         read =
-            ap (λ (x : AckInfo). read_at (ack_room x room) 0) same ∙ b.0
+            ap (λ (x : Report). read_at (ack_room x room) 0) same ∙ b.0
             ∙ ap₂ (λ (t n : ℕ). block_read 12 (5 + length (pair_bytes r)) (8 + length (pair_bytes r)) (ack_fields t n) (bytes_at 8 (length (pair_bytes r)))) (sym c.says.same_through) (sym c.says.same_count);
-        fed = c.says.same_pairs ∙ sym b.1 ∙ ap (λ (x : AckInfo). part (ack_room x room) 8 (length (pair_bytes r))) (sym same);
+        fed = c.says.same_pairs ∙ sym b.1 ∙ ap (λ (x : Report). part (ack_room x room) 8 (length (pair_bytes r))) (sym same);
       }
 
   reports : (run : List Event) → OnlyFromSender run → AcksCarried there run → AcksAreReports run

@@ -3,16 +3,15 @@ use Rattle.std.specs.Prelude.{◌≡◌, ◌&&◌, List, ℕ}
 use Rattle.acks.specs.Window.{in_window}
 use Rattle.acks.specs.History.{answer_to, among, received, highest_seen, newest}
 use Rattle.acks.specs.Tracking.{fresh, is_duplicate, register_of, register_all}
-use Rattle.acks.specs.Reporting.{ack_info}
+use Rattle.acks.specs.Reporting.{Report, ack_info}
 use Rattle.acks.specs.declared.Tracker.{Tracker}
-use Rattle.acks.specs.declared.AckInfo.{AckInfo}
 
 -- the tracker after a history of calls
 abbrev pub tracker_after : List ℕ → Tracker
 tracker_after calls = register_all fresh calls
 
 -- its report
-abbrev pub report_after : List ℕ → AckInfo
+abbrev pub report_after : List ℕ → Report
 report_after calls = ack_info (tracker_after calls)
 
 -- a registration answers 40, 42, 43 or 0 by what was seen and received before it

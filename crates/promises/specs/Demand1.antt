@@ -9,23 +9,20 @@
 --   a store that does nothing: `Demand3Calls`, whose replies have 60 and the message at the last missing piece
 --   a store that always says kept: `Demand3Calls`, whose replies have 54 at a repeat
 --   a store that serves only its first message: `Demand3Calls`, where every message comes out once
-use Rattle.std.specs.Prelude.{◌≡◌, List, [], ◌∷◌, ℕ, length}
+use Rattle.std.specs.Prelude.{◌≡◌, List, [], ◌∷◌, ℕ, length, Err}
 use types.Run.{OneOf}
 use Rattle.wire.specs.Numbers.{Bytes}
 use Rattle.header.specs.declared.Fields.{Fields}
-use Rattle.header.specs.declared.Answer.TheVariants as Header
 use Rattle.header.specs.Reading.{header_answer, packet_after_read}
 use Rattle.header.specs.Writing.{write_number, packet_after_write}
-use Rattle.blocks.specs.declared.Extent.TheVariants as End
-use Rattle.blocks.specs.declared.Written.TheVariants as Wrote
+use Rattle.blocks.specs.Outcomes as End
 use Rattle.blocks.specs.Reading.{read_at}
 use Rattle.blocks_listing.specs.declared.Entry.{Entry}
 use Rattle.blocks_listing.specs.Listing.{no, listing, entries_after}
 use Rattle.blocks.specs.Writing.{writing, room_after}
 use Rattle.acks.specs.declared.Tracker.{Tracker}
-use Rattle.acks.specs.declared.AckInfo.{AckInfo}
 use Rattle.acks.specs.Tracking.{register_of}
-use Rattle.acks.specs.Reporting.{ack_info}
+use Rattle.acks.specs.Reporting.{Report, ack_info}
 use Rattle.acks.specs.Recorded.{register_there, record_after, duplicate_there, report_there}
 use Rattle.acks.specs.AckBlocks.{ack_writing, ack_room}
 use Rattle.acks.specs.Expanding.{expand_of, list_after}
@@ -47,7 +44,7 @@ StoreRefuses n = Refuses n × (n ≡ 60 → ⊥)
 -- reading a header: 20 to 24, and the packet stays
 abbrev pub HeaderReadRefused : Type 0
 HeaderReadRefused =
-    (k1 k2 p : List ℕ) (n : ℕ) → header_answer k1 k2 p ≡ Header.Refused n
+    (k1 k2 p : List ℕ) (n : ℕ) → header_answer k1 k2 p ≡ Err n
     → OneOf (20 ∷ 21 ∷ 22 ∷ 23 ∷ 24 ∷ []) n × (packet_after_read k1 k2 p ≡ p)
 
 -- writing a header: 20, 21, 22, 24 or 25, and the packet stays
@@ -71,7 +68,7 @@ BlockListRefused =
 -- writing a block: 30 to 32, and the room stays
 abbrev pub BlockWriteRefused : Type 0
 BlockWriteRefused =
-    (kind : ℕ) (fields body room : List ℕ) (n : ℕ) → writing kind fields body (length room) ≡ Wrote.Refused n
+    (kind : ℕ) (fields body room : List ℕ) (n : ℕ) → writing kind fields body (length room) ≡ Err n
     → OneOf (30 ∷ 31 ∷ 32 ∷ []) n × (room_after kind fields body room ≡ room)
 
 -- registering a number by value: 40, 42 or 43, and the tracker that is returned is the one that was given
@@ -96,8 +93,8 @@ AskRefused =
 -- the report of a record of any bytes as an Ack block: 30, 41 or 59; and the room stays, whatever the report
 abbrev pub AckBlockRefused : Type 0
 AckBlockRefused =
-    ((rec : List ℕ) (room n : ℕ) → Bytes rec → ack_writing (report_there rec) room ≡ Wrote.Refused n → OneOf (30 ∷ 41 ∷ 59 ∷ []) n)
-    × ((r : AckInfo) (room : List ℕ) (n : ℕ) → ack_writing r (length room) ≡ Wrote.Refused n → ack_room r room ≡ room)
+    ((rec : List ℕ) (room n : ℕ) → Bytes rec → ack_writing (report_there rec) room ≡ Err n → OneOf (30 ∷ 41 ∷ 59 ∷ []) n)
+    × ((r : Report) (room : List ℕ) (n : ℕ) → ack_writing r (length room) ≡ Err n → ack_room r room ≡ room)
 
 -- expanding an acknowledgement: 44 or 46, and the list stays
 abbrev pub ExpandRefused : Type 0

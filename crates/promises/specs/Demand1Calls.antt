@@ -1,13 +1,13 @@
 -- Demand 1 of the C calls: where one answers by numbers, its refusal leaves the lent numbers, records and rooms as they were. The other C calls are equations with the definitions of specs/Demand1.antt.
-use Rattle.std.specs.Prelude.{◌≡◌, List, [], ◌∷◌, ℕ, length}
+use Rattle.std.specs.Prelude.{Result, ◌≡◌, List, [], ◌∷◌, ℕ, length}
 use types.Run.{OneOf}
 use Rattle.wire.specs.Parts.{splice}
-use Rattle.header.specs.declared.Answer.{Answer}
-use Rattle.blocks.specs.declared.Read.{Read}
+use Rattle.header.specs.declared.HeaderKind.{HeaderKind}
+use Rattle.blocks.specs.Outcomes.{Read}
 use Rattle.blocks.specs.Numbers.{read_numbers, writing_by, room_by}
 use Rattle.blocks_listing.specs.declared.Entry.{Entry}
 use Rattle.blocks_listing.specs.Listing.{Listing, listing_answer, entries_after}
-use Rattle.acks.specs.declared.AckInfo.{AckInfo}
+use Rattle.acks.specs.Reporting.{Report}
 use Rattle.acks.specs.AckBlocks.{ack_writing, ack_room}
 use Rattle.numbers_outcomes.specs.Outcomes.{write_outcome, read_outcome}
 use Rattle.numbers_outcomes.specs.Listings.{list_outcome}
@@ -22,7 +22,7 @@ use Rattle.reassembly.specs.Calls.{Lent}
 -- a part for each call that is lent numbers, records or a room
 pub record Demand1Calls : Type 0 where
   -- strawhub_header_read, its eleven numbers
-  pub header_numbers : (a : Answer) (out : List ℕ) → Refuses (answer_number a) → answer_numbers a out ≡ out
+  pub header_numbers : (a : Result HeaderKind ℕ) (out : List ℕ) → Refuses (answer_number a) → answer_numbers a out ≡ out
   -- strawhub_block_read, its twelve numbers
   pub block_numbers_lem : (r : Read) (out : List ℕ) → Refuses (read_outcome r).number → read_numbers r out ≡ out
   -- strawhub_block_write: 30 to 32, and the room stays
@@ -34,9 +34,9 @@ pub record Demand1Calls : Type 0 where
   -- strawhub_tracker_new: 59, and the record stays
   pub new_tracker : (rec : List ℕ) → Refuses (new_answer rec) → (new_answer rec ≡ 59) × (new_record rec ≡ rec)
   -- strawhub_tracker_report, its three numbers and its pairs
-  pub report : (r : AckInfo) (out pairs : List ℕ) → Refuses r.number → (report_numbers r out ≡ out) × (report_pairs r pairs ≡ pairs)
+  pub report : (r : Report) (out pairs : List ℕ) → Refuses r.number → (report_numbers r out ≡ out) × (report_pairs r pairs ≡ pairs)
   -- strawhub_tracker_ack_block, its room
-  pub ack_room_lem : (r : AckInfo) (room : List ℕ) → Refuses (write_outcome (ack_writing r (length room))).number → ack_room r room ≡ room
+  pub ack_room_lem : (r : Report) (room : List ℕ) → Refuses (write_outcome (ack_writing r (length room))).number → ack_room r room ≡ room
   -- strawhub_sender_new: 59, and the record stays
   pub new_sender_lem : (rec : List ℕ) → Refuses (lent_answer rec) → (lent_answer rec ≡ 59) × (new_sender_record rec ≡ rec)
   -- strawhub_sender_ack, its list of settled numbers

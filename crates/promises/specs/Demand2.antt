@@ -2,9 +2,8 @@
 use Rattle.std.specs.Prelude.{◌≡◌, List, [], ℕ, ◌≤◌, ◌<◌, length}
 use Rattle.wire.specs.Parts.{splice}
 use Rattle.acks.specs.History.{received, highest_seen, newest}
-use Rattle.acks.specs.Reporting.{silent, pair_bytes}
+use Rattle.acks.specs.Reporting.{Report, silent, pair_bytes}
 use Rattle.acks.specs.Expanding.{expand_of, list_after}
-use Rattle.acks.specs.declared.AckInfo.{AckInfo}
 use Rattle.promises.specs.Acks.{report_after}
 
 -- an acknowledgement, expanded into a lent list, is exactly some numbers: they stand in front, their count is returned, the rest of the list stays
@@ -13,7 +12,7 @@ pub record ExpandsTo (through acked : ℕ) (pairs list names : List ℕ) : Type 
   pub fills : list_after through acked pairs list ≡ splice list 0 names
 
 -- what a report is once a number was received
-pub record Acknowledges (calls : List ℕ) (r : AckInfo) : Type 0 where
+pub record Acknowledges (calls : List ℕ) (r : Report) : Type 0 where
   pub given : r.number ≡ 0
   pub highest : r.through ≡ highest_seen calls
   pub exact : (list : List ℕ) → 255 ≤ length list → ExpandsTo r.through r.count (pair_bytes r) list (newest calls)

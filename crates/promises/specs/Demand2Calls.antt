@@ -7,7 +7,7 @@ use Rattle.blocks.specs.Reading.{bytes_at, block_read, read_at}
 use Rattle.acks.specs.History.{Packets, answer_to, among, received, highest_seen, newest}
 use Rattle.acks.specs.Recorded.{tracker_size, tracker_at, register_there, record_all, duplicate_there, report_there}
 use Rattle.acks.specs.AckBlocks.{ack_writing, ack_room}
-use Rattle.acks.specs.declared.AckInfo.{AckInfo}
+use Rattle.acks.specs.Reporting.{Report}
 use Rattle.numbers_outcomes.specs.Outcomes.{outcome, write_outcome}
 use Rattle.numbers_outcomes.specs.Trackers.{new_record, report_numbers, report_pairs}
 use Rattle.promises.specs.Acks.{tracker_after}
@@ -22,7 +22,7 @@ abbrev pub TrackerStarts : Type 0
 TrackerStarts = Fresh (replicate tracker_size 0) × ((rec : List ℕ) → tracker_size ≤ length rec → Fresh (new_record rec))
 
 -- a report refused with 41: the lent numbers, pairs and room stay
-pub record Unreported (r : AckInfo) (out pairs room : List ℕ) : Type 0 where
+pub record Unreported (r : Report) (out pairs room : List ℕ) : Type 0 where
   pub is_41 : r.number ≡ 41
   pub numbers_stay : report_numbers r out ≡ out
   pub pairs_stay : report_pairs r pairs ≡ pairs
@@ -30,14 +30,14 @@ pub record Unreported (r : AckInfo) (out pairs room : List ℕ) : Type 0 where
   pub room_stays : ack_room r room ≡ room
 
 -- a report as strawhub_tracker_report lends it, in numbers that strawhub_ack_expand takes, names exactly the newest
-pub record Reported (calls : List ℕ) (r : AckInfo) (out pairs list : List ℕ) : Type 0 where
+pub record Reported (calls : List ℕ) (r : Report) (out pairs list : List ℕ) : Type 0 where
   pub given : r.number ≡ 0
   pub numbers : report_numbers r out ≡ highest_seen calls ∷ r.count ∷ r.len ∷ []
   pub in_width : (highest_seen calls < 256 ^ 4) × (r.count < 256) × (r.len ≤ 254)
   pub exact : ExpandsTo (highest_seen calls) r.count (take r.len (report_pairs r pairs)) list (newest calls)
 
 -- its Ack block as strawhub_tracker_ack_block writes it, read back where it stands, names the same
-pub record Sent (calls : List ℕ) (r : AckInfo) (room list : List ℕ) : Type 0 where
+pub record Sent (calls : List ℕ) (r : Report) (room list : List ℕ) : Type 0 where
   pub wrote : write_outcome (ack_writing r (length room)) ≡ outcome 0 (8 + r.len)
   pub read : read_at (ack_room r room) 0 ≡ block_read 12 (5 + r.len) (8 + r.len) (ack_fields (highest_seen calls) r.count) (bytes_at 8 r.len)
   pub exact : ExpandsTo (highest_seen calls) r.count (part (ack_room r room) 8 r.len) list (newest calls)

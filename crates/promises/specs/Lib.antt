@@ -1,4 +1,5 @@
 -- The demands of the request, each a statement over the definitions of the crates below.
+pub mod Refusals
 pub mod Acks
 pub mod Twelve
 pub mod HeaderNumbers

@@ -6,7 +6,7 @@ use Rattle.blocks.specs.declared.Part.{Part}
 use Rattle.blocks.specs.Names.{ack_fields}
 use Rattle.blocks.specs.Reading.{block_read, read_at}
 use Rattle.acks.specs.History.{among}
-use Rattle.acks.specs.declared.AckInfo.{AckInfo}
+use Rattle.acks.specs.Reporting.{Report}
 use Rattle.acks.specs.Recorded.{register_there, record_all, report_there}
 use Rattle.acks.specs.AckBlocks.{ack_writing, ack_room}
 use Rattle.numbers_outcomes.specs.Outcomes.{write_outcome}
@@ -26,7 +26,7 @@ abbrev pub far_after : List ℕ → List Event → List ℕ
 far_after far run = record_all far (arrivals run)
 
 -- what the far tracker reports then
-abbrev pub report_at : List ℕ → List Event → AckInfo
+abbrev pub report_at : List ℕ → List Event → Report
 report_at far run = report_there (far_after far run)
 
 -- whether a call gave out n, by the number that it returned; 0 counts as given out

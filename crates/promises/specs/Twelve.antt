@@ -1,7 +1,7 @@
 -- The twelve marked cases of document 01, (a) to (l), as one statement over a list of cases.
 use Rattle.std.specs.Prelude.{◌≡◌, true, false, List, [], ◌∷◌, ℕ, length}
 use Rattle.wire.specs.Parts.{part}
-use Rattle.blocks.specs.declared.Read.{Read}
+use Rattle.blocks.specs.Outcomes.{Read}
 use Rattle.blocks.specs.Layout.{eight}
 use Rattle.blocks.specs.Names.{ack_fields}
 use Rattle.blocks.specs.Reading.{bytes_at, block_read, read_refused, read_at}

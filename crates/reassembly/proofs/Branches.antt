@@ -1,6 +1,6 @@
 -- Each branch of a call's definition, from the test that leads there. Assumes nothing.
 use mathlib.Core.Path.{◌≡◌, refl, sym, ap, ◌∙◌}
-use mathlib.Core.Bool.{Bool, true, false, cond, not, ◌&&◌, or-true, false≢true}
+use mathlib.Core.Bool.{Bool, true, false, ◌&&◌, or-true, false≢true}
 use mathlib.Core.List.{List}
 use Prim.Native.Nat.{ℕ, ◌+◌, ◌*◌, ◌≤◌, ◌<◌}
 use native.Mathlib.Omega.{arith}
@@ -8,20 +8,19 @@ use lib.Dec.{eqb, ltb, leb}
 use lib.ListN.{length}
 use borrow.Author.Tests.{lt-ltb, le-ltb, eq-eqb, ne_eqb, le-leb, lt-leb, ltb-true, ltb-false, leb-false, eqb-false}
 use native.Mathlib.Numerals.{add-one}
-use Rattle.wire.specs.Parts.{splice, same}
+use Rattle.wire.specs.Parts.{splice}
 use Rattle.wire.proofs.Tests.{or_neither}
 use Rattle.reassembly.specs.Sizes.{message_size, slot_size}
 use Rattle.reassembly.specs.declared.Head.{Head}
 use Rattle.reassembly.specs.declared.Entry.{Entry}
 use Rattle.reassembly.specs.declared.Label.{Label}
-use Rattle.reassembly.specs.declared.Reply.{Reply}
 use Rattle.reassembly.specs.Record.{head_at, with_head, entry_at, with_entry, outside, piece_at, cleared}
 use Rattle.reassembly.specs.Slots.{first_from, is_open_as, is_free}
 use Rattle.reassembly.specs.Memory.{Finished, remembers}
 use Rattle.reassembly.specs.Remembered.{memory_of, remembered_in}
 use Rattle.reassembly.specs.Summary.{open_count, with_open, lowered, is_full}
 use Rattle.reassembly.specs.Joining.{message_of, joins_outside}
-use Rattle.reassembly.specs.Judge.{pick, same_label, again, misfits, more_of, grown_by, is_complete, new_head, no_head, is_old}
+use Rattle.reassembly.specs.Judge.{again, misfits, grown_by, is_complete, new_head, no_head, is_old}
 use Rattle.reassembly.specs.Calls.{lent, After, after, bare, kept_rec, kept_room, finished, put_in, compared, added, opened_in, opened_now, remembered_after, with_raised, with_remembered, taken_piece, bad_size, off_number, first_taken, follow_on_taken, swept_at, swept_to}
 
 -- a message that is whole has a last number below 128
@@ -35,19 +34,19 @@ whole_last h e = ltb-true h.last 128 (go (ltb 0 h.last) (ltb h.last 128) (eqb h.
     go false b c q = absurd (false≢true q)
 
 module _ (rec room out : List ℕ) (i : ℕ) (l : Label) (g : Head) (v : List ℕ) where
-  pub finished_59 : (r : Reply) (o : Bool) (k m : ℕ) → k ≡ l.number → m ≡ g.last → o ≡ joins_outside rec i k (m + 1) → o ≡ true → r ≡ bare 59 → after r (lent rec room out) ≡ finished (lent rec room out) i l g v
+  pub finished_59 : (o : Bool) (k m : ℕ) → k ≡ l.number → m ≡ g.last → o ≡ joins_outside rec i k (m + 1) → o ≡ true → after (bare 59) (lent rec room out) ≡ finished (lent rec room out) i l g v
   unfolding finished
-  finished_59 r o k m ek em eo t q =
+  finished_59 o k m ek em eo t =
       let u : joins_outside rec i l.number (g.last + 1) ≡ true = cc in
-      rw (u, q) refl
+      rw u refl
 
-  pub finished_short : (r : Reply) (o : Bool) (n k m : ℕ) → k ≡ l.number → m ≡ g.last → o ≡ joins_outside rec i k (m + 1) → o ≡ false → n ≡ length (message_of rec room i k v (m + 1)) → length out < n → r ≡ bare 56 → after r (lent rec room out) ≡ finished (lent rec room out) i l g v
+  pub finished_short : (o : Bool) (n k m : ℕ) → k ≡ l.number → m ≡ g.last → o ≡ joins_outside rec i k (m + 1) → o ≡ false → n ≡ length (message_of rec room i k v (m + 1)) → length out < n → after (bare 56) (lent rec room out) ≡ finished (lent rec room out) i l g v
   unfolding finished
-  finished_short r o n k m ek em eo f en h q =
+  finished_short o n k m ek em eo f en h =
       let u : joins_outside rec i l.number (g.last + 1) ≡ false = cc in
       let e : n ≡ length (message_of rec room i l.number v (g.last + 1)) = cc in
       let t : ltb (length out) (length (message_of rec room i l.number v (g.last + 1))) ≡ true = lt-ltb (length out) (length (message_of rec room i l.number v (g.last + 1))) (omega arith) in
-      rw (u, t, q) refl
+      rw (u, t) refl
 
   pub finished_out : (o : Bool) (n k m : ℕ) (rec' out' : List ℕ) (z : Head) → k ≡ l.number → m ≡ g.last → o ≡ joins_outside rec i k (m + 1) → o ≡ false → n ≡ length (message_of rec room i k v (m + 1)) → n ≤ length out
       → out' ≡ splice out 0 (message_of rec room i k v (m + 1)) → z ≡ no_head → rec' ≡ with_head rec i z
@@ -60,9 +59,9 @@ module _ (rec room out : List ℕ) (i : ℕ) (l : Label) (g : Head) (v : List �
       rw (u, t) (cc)
 
 module _ (rec room out : List ℕ) (i : ℕ) (h : Head) (l : Label) (v : List ℕ) where
-  pub put_53 : (r : Reply) → message_size < h.total + length v → r ≡ bare 53 → after r (lent rec room out) ≡ put_in (lent rec room out) i h l v
+  pub put_53 : message_size < h.total + length v → after (bare 53) (lent rec room out) ≡ put_in (lent rec room out) i h l v
   unfolding put_in
-  put_53 r t q = rw (lt-ltb message_size (h.total + length v) t, q) refl
+  put_53 t = rw (lt-ltb message_size (h.total + length v) t) refl
 
   pub put_whole : (x : After) (g : Head) → h.total + length v ≤ message_size → g ≡ grown_by h l (length v) → is_complete g ≡ true → x ≡ finished (lent rec room out) i l g v → x ≡ put_in (lent rec room out) i h l v
   unfolding put_in
@@ -70,10 +69,10 @@ module _ (rec room out : List ℕ) (i : ℕ) (h : Head) (l : Label) (v : List �
       let w' : is_complete (grown_by h l (length v)) ≡ true = ap is_complete (sym e) ∙ w in
       rw (le-ltb message_size (h.total + length v) t, w') (q ∙ ap (λ (z : Head). finished (lent rec room out) i l z v) e)
 
-  pub put_kept : (r : Reply) (rec' room' : List ℕ) (g : Head) (k : ℕ) → h.total + length v ≤ message_size → g ≡ grown_by h l (length v) → is_complete g ≡ false → k ≡ l.number
-      → rec' ≡ kept_rec rec i k h.total (length v) g → room' ≡ kept_room room i h.total v → r ≡ bare 0 → after r (lent rec' room' out) ≡ put_in (lent rec room out) i h l v
+  pub put_kept : (rec' room' : List ℕ) (g : Head) (k : ℕ) → h.total + length v ≤ message_size → g ≡ grown_by h l (length v) → is_complete g ≡ false → k ≡ l.number
+      → rec' ≡ kept_rec rec i k h.total (length v) g → room' ≡ kept_room room i h.total v → after (bare 0) (lent rec' room' out) ≡ put_in (lent rec room out) i h l v
   unfolding put_in
-  put_kept r rec' room' g k t e w n a b q =
+  put_kept rec' room' g k t e w n a b =
       let w' : is_complete (grown_by h l (length v)) ≡ false = ap is_complete (sym e) ∙ w in
       rw (le-ltb message_size (h.total + length v) t, w') (cc)
 
@@ -81,17 +80,17 @@ module _ (rec room out : List ℕ) (i : ℕ) (l : Label) (v : List ℕ) (h : Hea
   len_is : e.len ≡ (entry_at rec i l.number).len
   len_is = ap (λ (x : Entry). x.len) ee ∙ ap (λ (z : ℕ). (entry_at rec i z).len) ek
 
-  pub added_again : (r : Reply) (n : ℕ) → (e.len ≡ 0 → ⊥) → n ≡ compared rec room i h l v → r ≡ bare n → after r (lent rec room out) ≡ added (lent rec room out) i l v
+  pub added_again : (n : ℕ) → (e.len ≡ 0 → ⊥) → n ≡ compared rec room i h l v → after (bare n) (lent rec room out) ≡ added (lent rec room out) i l v
   unfolding added
-  added_again r n t q b =
+  added_again n t q =
       let u : n ≡ compared rec room i (head_at rec i) l v = cc in
-      rw (ne_eqb (entry_at rec i l.number).len 0 (λ z. t (len_is ∙ z)), b, u) refl
+      rw (ne_eqb (entry_at rec i l.number).len 0 (λ z. t (len_is ∙ z)), u) refl
 
-  pub added_55 : (r : Reply) (b : Bool) → e.len ≡ 0 → b ≡ misfits h l → b ≡ true → r ≡ bare 55 → after r (lent rec room out) ≡ added (lent rec room out) i l v
+  pub added_55 : (b : Bool) → e.len ≡ 0 → b ≡ misfits h l → b ≡ true → after (bare 55) (lent rec room out) ≡ added (lent rec room out) i l v
   unfolding added
-  added_55 r b t m m' q =
+  added_55 b t m m' =
       let u : misfits (head_at rec i) l ≡ true = cc in
-      rw (eq-eqb (entry_at rec i l.number).len 0 (sym len_is ∙ t), u, q) refl
+      rw (eq-eqb (entry_at rec i l.number).len 0 (sym len_is ∙ t), u) refl
 
   pub added_put : (x : After) (b : Bool) → e.len ≡ 0 → b ≡ misfits h l → b ≡ false → x ≡ put_in (lent rec room out) i h l v → x ≡ added (lent rec room out) i l v
   unfolding added
@@ -158,15 +157,15 @@ unfolding is_full
 free_slot rec e = leb-false 4 (first_from (is_free rec) 0 4) (or_neither (leb 4 (open_count rec)) (leb 4 (first_from (is_free rec) 0 4)) e).1
 
 module _ (rec room out : List ℕ) (l : Label) (second : ℕ) (v : List ℕ) where
-  pub opened_57 : (r : Reply) (b : Bool) → b ≡ remembers (memory_of rec) l.id → b ≡ true → r ≡ bare 57 → after r (lent rec room out) ≡ opened_now (lent rec room out) l second v
+  pub opened_57 : (b : Bool) → b ≡ remembers (memory_of rec) l.id → b ≡ true → after (bare 57) (lent rec room out) ≡ opened_now (lent rec room out) l second v
   unfolding opened_now
-  opened_57 r b e t q = rw (sym e ∙ t, q) refl
+  opened_57 b e t = rw (sym e ∙ t) refl
 
   -- 52 by the summary, or where no slot is free
-  pub opened_52 : (r : Reply) (b : Bool) → b ≡ remembers (memory_of rec) l.id → b ≡ false → is_full rec ≡ true → r ≡ bare 52
-      → after r (lent rec room out) ≡ opened_now (lent rec room out) l second v
+  pub opened_52 : (b : Bool) → b ≡ remembers (memory_of rec) l.id → b ≡ false → is_full rec ≡ true
+      → after (bare 52) (lent rec room out) ≡ opened_now (lent rec room out) l second v
   unfolding opened_now
-  opened_52 r b e f t q = rw (sym e ∙ f, t, q) refl
+  opened_52 b e f t = rw (sym e ∙ f, t) refl
 
   pub opened_in_lem : (x : After) (rec' : List ℕ) (b : Bool) (i n : ℕ) → b ≡ remembers (memory_of rec) l.id → b ≡ false → n ≡ open_count rec → n < 4 → i ≡ first_from (is_free rec) 0 4 → i < 4
       → x ≡ opened_in (lent rec room out) i l second v → rec' ≡ with_open x.left.rec (n + 1)
@@ -191,21 +190,21 @@ module _ (rec room out : List ℕ) (l : Label) (second : ℕ) (v : List ℕ) whe
   unfolding taken_piece
   taken_opened x i e t q = rw (le-ltb (first_from (is_open_as rec l.id) 0 4) 4 (omega arith)) q
 
-  pub first_50 : (r : Reply) → bad_size (length v) ≡ true → r ≡ bare 50 → after r (lent rec room out) ≡ first_taken (lent rec room out) l second v
+  pub first_50 : bad_size (length v) ≡ true → after (bare 50) (lent rec room out) ≡ first_taken (lent rec room out) l second v
   unfolding first_taken
-  first_50 r s q = rw (s, q) refl
+  first_50 s = rw s refl
 
   pub first_taken_lem : (x : After) → bad_size (length v) ≡ false → x ≡ taken_piece (lent rec room out) l second v → x ≡ first_taken (lent rec room out) l second v
   unfolding first_taken
   first_taken_lem x s q = rw s q
 
-  pub follow_50 : (r : Reply) → bad_size (length v) ≡ true → r ≡ bare 50 → after r (lent rec room out) ≡ follow_on_taken (lent rec room out) l second v
+  pub follow_50 : bad_size (length v) ≡ true → after (bare 50) (lent rec room out) ≡ follow_on_taken (lent rec room out) l second v
   unfolding follow_on_taken
-  follow_50 r s q = rw (s, q) refl
+  follow_50 s = rw s refl
 
-  pub follow_51 : (r : Reply) → bad_size (length v) ≡ false → off_number l.number ≡ true → r ≡ bare 51 → after r (lent rec room out) ≡ follow_on_taken (lent rec room out) l second v
+  pub follow_51 : bad_size (length v) ≡ false → off_number l.number ≡ true → after (bare 51) (lent rec room out) ≡ follow_on_taken (lent rec room out) l second v
   unfolding follow_on_taken
-  follow_51 r s n q = rw (s, n, q) refl
+  follow_51 s n = rw (s, n) refl
 
   pub follow_taken : (x : After) → bad_size (length v) ≡ false → off_number l.number ≡ false → x ≡ taken_piece (lent rec room out) l second v → x ≡ follow_on_taken (lent rec room out) l second v
   unfolding follow_on_taken
@@ -234,26 +233,6 @@ good_number k e =
     let p = or_neither (eqb k 0) (ltb 127 k) e in
     let z : k ≡ 0 → ⊥ = eqb-false k 0 p.0 in
     (omega arith, ltb-false 127 k p.1)
-
--- a piece whose number is held: 54 where its label and its bytes are the same
-pub again_is : (h : Head) (l : Label) (held v : List ℕ) (p q b : Bool) → p ≡ same_label h l → q ≡ same held v → (p && q) ≡ b → cond b 54 55 ≡ again h l held v
-unfolding again
-again_is h l held v p q b e f g = rw (← e, ← f, g) refl
-
--- the head with a piece more, field by field
-pub grown_is : (h : Head) (l : Label) (n expires count last top kind : ℕ) → expires ≡ pick (eqb l.number 0) l.expires h.expires → count ≡ more_of h.count → last ≡ pick l.last l.number h.last → top ≡ pick (ltb h.top l.number) l.number h.top → kind ≡ pick (eqb l.number 0) l.kind h.kind → ◌≡◌ {A = Head} (record { id = h.id; opened = h.opened; expires = expires; total = h.total + n; count = count; last = last; top = top; kind = kind }) (grown_by h l n)
-unfolding grown_by
-grown_is h l n expires count last top kind e c p t k =
-    λ i. record { id = h.id; opened = h.opened; expires = e i; total = h.total + n; count = c i; last = p i; top = t i; kind = k i }
-
--- the test of a slot, from the head that was read there
-pub open_as : (rec : List ℕ) (id i : ℕ) (h : Head) (p b : Bool) → h ≡ head_at rec i → p ≡ (not (eqb h.count 0) && eqb h.id id) → p ≡ b → is_open_as rec id i ≡ b
-unfolding is_open_as
-open_as rec id i h p b e f g = ap (λ (z : Head). not (eqb z.count 0) && eqb z.id id) (sym e) ∙ sym f ∙ g
-
-pub free_as : (rec : List ℕ) (i : ℕ) (h : Head) (p b : Bool) → h ≡ head_at rec i → p ≡ eqb h.count 0 → p ≡ b → is_free rec i ≡ b
-unfolding is_free
-free_as rec i h p b e f g = ap (λ (z : Head). eqb z.count 0) (sym e) ∙ sym f ∙ g
 
 -- one slot more is swept
 pub swept_more : (second : ℕ) (rec₀ rec rec' : List ℕ) (i : ℕ) → rec ≡ swept_to second rec₀ i → rec' ≡ swept_at second rec i → rec' ≡ swept_to second rec₀ (i + 1)

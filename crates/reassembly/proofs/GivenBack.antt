@@ -10,10 +10,13 @@ use borrow.Author.Tests.{lt-ltb, le-ltb, ltb-false}
 use borrow.Rule.Slice.PartMut.{put_mid}
 use Rattle.wire.proofs.Tests.{or_neither}
 use Rattle.reassembly.specs.Sizes.{share_room, room_size, share_size, record_size}
+use Rattle.reassembly.specs.declared.Fragment.{Fragment}
+use Rattle.reassembly.specs.declared.Fragment.TheVariants as F
 use Rattle.reassembly.specs.declared.Label.{Label}
 use Rattle.reassembly.specs.declared.Reply.{Reply}
 use Rattle.reassembly.specs.Calls.{Lent, lent, After, after, bare, refuses, first_taken, follow_on_taken}
 use Rattle.reassembly.specs.Shares.{lent_to, given_back, lent_short, from_neighbour, first_call, follow_on_call}
+use Rattle.reassembly.specs.Fragments.{fragment_taken, fragment_call}
 use Rattle.reassembly.proofs.Shares.{share_lent, share_back, share_again, room_lent, room_back, room_again}
 
 -- what the test that was passed says of the lengths, and what lengths say of it
@@ -55,6 +58,12 @@ module _ (x : Lent) (n : ℕ) (y : After) where
             )
             refl
 
+-- a fragment's call is what becomes of its neighbour's share
+fragment_is : (x : Lent) (n : ℕ) (p : Fragment) (second : ℕ) (v : List ℕ) → fragment_call x n p second v ≡ from_neighbour x n (fragment_taken (lent_to x n) p second v)
+unfolding first_call follow_on_call
+fragment_is x n (F.First id kind expires) second v = refl
+fragment_is x n (F.FollowOn id number last) second v = refl
+
 -- ---- what the code of a call learns: it lends `&mut rec[a..e]` and `&mut room[b..f]` and gives back what became of them
 
 module _ (rec room out : List ℕ) (n a e b f : ℕ) (long : lent_short rec room ≡ false) (one : n ≤ 3)
@@ -68,19 +77,23 @@ module _ (rec room out : List ℕ) (n a e b f : ℕ) (long : lent_short rec room
       (sym (from_taken (lent rec room out) n (g (lent_to (lent rec room out) n)) long one
       ∙ ap (λ (z : After). after z.reply (given_back (lent rec room out) n z.left)) (sym q')))
 
-  pub first_back : (l : Label) (second : ℕ) (v : List ℕ)
-      → after r (lent ys zs out') ≡ first_taken (lent (take (e - a) (drop a rec)) (take (f - b) (drop b room)) out) l second v
-      → after r (lent (put_mid a (e - a) rec ys) (put_mid b (f - b) room zs) out') ≡ first_call (lent rec room out) n l second v
-  unfolding first_call
-  first_back l second v q = from_back (λ (x : Lent). first_taken x l second v) q
-
-  pub follow_back : (l : Label) (second : ℕ) (v : List ℕ)
-      → after r (lent ys zs out') ≡ follow_on_taken (lent (take (e - a) (drop a rec)) (take (f - b) (drop b room)) out) l second v
-      → after r (lent (put_mid a (e - a) rec ys) (put_mid b (f - b) room zs) out') ≡ follow_on_call (lent rec room out) n l second v
-  unfolding follow_on_call
-  follow_back l second v q = from_back (λ (x : Lent). follow_on_taken x l second v) q
+  pub fragment_back : (p : Fragment) (second : ℕ) (v : List ℕ)
+      → after r (lent ys zs out') ≡ fragment_taken (lent (take (e - a) (drop a rec)) (take (f - b) (drop b room)) out) p second v
+      → after r (lent (put_mid a (e - a) rec ys) (put_mid b (f - b) room zs) out') ≡ fragment_call (lent rec room out) n p second v
+  fragment_back p second v q =
+      from_back (λ (x : Lent). fragment_taken x p second v) q ∙ sym (fragment_is (lent rec room out) n p second v)
 
 -- its refusals
+module _ (rec room out : List ℕ) (n : ℕ) (p : Fragment) (second : ℕ) (v : List ℕ) where
+  pub fragment_59 : lent_short rec room ≡ true → after (bare 59) (lent rec room out) ≡ fragment_call (lent rec room out) n p second v
+  fragment_59 t =
+      sym (fragment_is (lent rec room out) n p second v ∙ from_59 (lent rec room out) n (fragment_taken (lent_to (lent rec room out) n) p second v) t)
+
+  pub fragment_58 : lent_short rec room ≡ false → 3 < n → after (bare 58) (lent rec room out) ≡ fragment_call (lent rec room out) n p second v
+  fragment_58 t h =
+      sym (fragment_is (lent rec room out) n p second v ∙ from_58 (lent rec room out) n (fragment_taken (lent_to (lent rec room out) n) p second v) t h)
+
+-- the refusals of each call, for every label
 module _ (rec room out : List ℕ) (n : ℕ) (l : Label) (second : ℕ) (v : List ℕ) (r : Reply) where
   pub first_short : lent_short rec room ≡ true → r ≡ bare 59 → after r (lent rec room out) ≡ first_call (lent rec room out) n l second v
   unfolding first_call

@@ -1,6 +1,6 @@
 -- Laws of a slot's pieces, and of a loop that lays them down. Assumes nothing.
 use mathlib.Core.Path.{◌≡◌, refl, sym, ap, ◌∙◌}
-use mathlib.Core.Bool.{Bool, false, ◌||◌}
+use mathlib.Core.Bool.{Bool, true, false, ◌||◌, or-true}
 use mathlib.Core.List.{List}
 use mathlib.Core.Logic.{⊎_elim}
 use Prim.Native.Nat.{ℕ, zero, suc, ◌+◌, ◌*◌, ◌≤◌, ◌<◌}
@@ -61,13 +61,7 @@ pub length_held : (rec : List ℕ) (i m n k : ℕ) → (k ≡ m → ⊥) → len
 unfolding length_or
 length_held rec i m n k ne = rw (ne_eqb k m ne) refl
 
--- one number more; and none of some
-pub sum_turn : (f : ℕ → ℕ) (n a b : ℕ) → a ≡ sum_of f n → b ≡ f n → a + b ≡ sum_of f (n + 1)
-sum_turn f n a b ea eb = rw (add-one n, ea, eb) refl
-
-pub some_turn : (p : ℕ → Bool) (n : ℕ) (a b : Bool) → a ≡ some_of p n → b ≡ p n → (a || b) ≡ some_of p (n + 1)
-some_turn p n a b ea eb = rw (add-one n, ea, eb) refl
-
+-- none of some, and one of some
 pub none_of : (p : ℕ → Bool) (n k : ℕ) → k < n → some_of p n ≡ false → p k ≡ false
 none_of p zero k h e = absurd (omega arith)
 none_of p (suc n) k h e =
@@ -75,6 +69,14 @@ none_of p (suc n) k h e =
   where
     below : (k n : ℕ) → k < suc n → k ≤ n
     below k n h = omega arith
+
+pub some_at : (p : ℕ → Bool) (n k : ℕ) → k < n → p k ≡ true → some_of p n ≡ true
+some_at p zero k h e = absurd (omega arith)
+some_at p (suc n) k h e = go (ℕ_discrete k n) (λ below. some_at p n k below e)
+  where
+    go : Dec (k ≡ n) → (k < n → some_of p n ≡ true) → (some_of p n || p n) ≡ true
+    go (yes q) ih = rw (ap p (sym q) ∙ e) (or-true (some_of p n))
+    go (no q) ih = rw (ih (omega arith)) refl
 
 pub none_all : (p : ℕ → Bool) (n : ℕ) → ((k : ℕ) → k < n → p k ≡ false) → some_of p n ≡ false
 none_all p zero f = refl

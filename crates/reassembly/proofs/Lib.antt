@@ -7,6 +7,7 @@ pub mod Scan
 pub mod Joined
 pub mod Ages
 pub mod Branches
+pub mod Arrivals
 pub mod Searches
 pub mod Written
 pub mod Held

@@ -16,8 +16,10 @@ pub mod Summary
 pub mod Joining
 pub mod Judge
 pub mod Calls
+pub mod Arrivals
 pub mod Shares
 pub mod Stands
 pub mod Standing
+pub mod Fragments
 pub mod Turns
 pub mod Careful

@@ -1,23 +1,49 @@
 // Replays sequences of calls on one store, and compares each answer and the assembly buffer with the list's. tests/reassembly_lists.py writes the list.
 #![tactic(auto)]
 
-ghost use Rattle.std.specs.Prelude.{◌≤◌, ◌<◌, length, IfOk};
+ghost use Rattle.std.specs.Prelude.{◌≤◌};
 
-use lines::Got;
-use reassembly::{RECORD_SIZE, ROOM_SIZE, Reply};
+use lines::{Fields, Lines, Tally};
+use reassembly::{Arrival, Fragment, RECORD_SIZE, ROOM_SIZE, Reply};
+use refusals::Refusal;
 use std::io;
 
 // What the assembly buffer holds before a call.
 const MARK: u8 = 165;
 
-// A line's fields.
+// What a line calls.
+#[derive(Clone, Copy)]
+enum Call {
+    Arrive(Fragment),
+    Sweep,
+    New,
+}
+
+impl Call {
+    // By its number, with the id and the two numbers that a fragment has.
+    fn of(call: u64, id: u32, a: u64, b: u64) -> Call {
+        match call {
+            1 => Call::Arrive(Fragment::First {
+                id,
+                kind: (a % 256) as u8,
+                expires: (b % 4294967296) as u32,
+            }),
+            2 => Call::Arrive(Fragment::FollowOn {
+                id,
+                number: (a % 256) as u8,
+                last: b == 1,
+            }),
+            3 => Call::Sweep,
+            _ => Call::New,
+        }
+    }
+}
+
+// A line's call, what it is given and what it answers.
 #[derive(Clone, Copy)]
 struct Line {
-    call: u64,
+    call: Call,
     neighbour: u64,
-    id: u32,
-    a: u64,
-    b: u64,
     second: u64,
     seed: u64,
     len: usize,
@@ -27,53 +53,43 @@ struct Line {
     expires: u64,
     length: u64,
     sum: u64,
+    ghost piece_fits: { len ≤ 2048 },
+    ghost room_fits: { room ≤ 65536 },
 }
 
-fn value(got: Got) -> u64 {
-    let Got::Of(n) = got else {
-        return 18446744073709551615;
-    };
-    n
+// The number that is next; one that is none reads as one that no good line has.
+fn number(fields: &mut Fields) -> u64 {
+    fields.number().unwrap_or(u64::MAX)
 }
 
-fn fields(text: &[u8], from: usize) -> [u64; 14] {
-    let mut all = [0u64; 14];
-    let mut at = from;
-    let mut i = 0;
-    while i < 14 {
-        all[i] = value(lines::number(lines::field(text, at)));
-        at = lines::after(text, at);
-        i += 1;
+impl Line {
+    fn read(fields: &mut Fields) -> Line {
+        let call = number(fields);
+        let neighbour = number(fields);
+        let id = (number(fields) % 4294967296) as u32;
+        let a = number(fields);
+        let b = number(fields);
+        Line {
+            call: Call::of(call, id, a, b),
+            neighbour,
+            second: number(fields),
+            seed: number(fields),
+            len: number(fields).min(2048) as usize,
+            room: number(fields).min(65536) as usize,
+            number: number(fields),
+            kind: number(fields),
+            expires: number(fields),
+            length: number(fields),
+            sum: number(fields),
+        }
     }
-    all
-}
 
-// A length of at most n.
-fn most(x: u64, n: usize) -> usize
-    ensures { result ≤ n }
-{
-    if x < n as u64 { x as usize } else { n }
-}
-
-fn line_at(text: &[u8], at: usize) -> Line
-    ensures { (result.len ≤ 2048) × (result.room ≤ 65536) }
-{
-    let f = fields(text, at);
-    Line {
-        call: f[0],
-        neighbour: f[1],
-        id: (f[2] % 4294967296) as u32,
-        a: f[3],
-        b: f[4],
-        second: f[5],
-        seed: f[6],
-        len: most(f[7], 2048),
-        room: most(f[8], 65536),
-        number: f[9],
-        kind: f[10],
-        expires: f[11],
-        length: f[12],
-        sum: f[13],
+    // Not == of two replies: the line's numbers may be wider than a reply's fields.
+    fn is_reply(&self, r: Reply) -> bool {
+        u64::from(r.number) == self.number
+            && u64::from(r.kind) == self.kind
+            && u64::from(r.expires) == self.expires
+            && r.length as u64 == self.length
     }
 }
 
@@ -82,183 +98,85 @@ fn byte(seed: u64, j: usize) -> u8 {
     ((seed % 256 * 7 + (j % 256) as u64 * 13 + (j / 256 % 256) as u64) % 256) as u8
 }
 
-fn fill(piece: &mut [u8], seed: u64) {
-    let mut j = 0;
-    while j < piece.len() {
-        piece[j] = byte(seed, j);
-        j += 1;
-    }
-}
-
-fn mark(out: &mut [u8]) {
-    let mut j = 0;
-    while j < out.len() {
-        out[j] = MARK;
-        j += 1;
-    }
-}
-
-// Whether every byte from a place on is as it was marked.
-fn marked(out: &[u8], from: usize) -> bool {
-    let mut ok = true;
-    let mut j = from;
-    while j < out.len() {
-        ok = ok & (out[j] == MARK);
-        j += 1;
-    }
-    ok
-}
-
-fn wide(x: u8) -> u64
-    ensures { result < 256 }
-{
-    x as u64
-}
-
 // A sum that knows the order of its bytes, with one byte more.
-fn mixed(sum: u64, b: u8) -> u64
-    requires { sum < 65521 }
-    ensures { result < 65521 }
-{
-    (sum * 31 + wide(b) + 1) % 65521
+fn mixed(sum: u16, b: u8) -> u16 {
+    ((u32::from(sum) * 31 + u32::from(b) + 1) % 65521) as u16
 }
 
-fn sum_of(out: &[u8], n: usize) -> u64
-    requires { n ≤ length out.now }
-{
-    let mut sum: u64 = 0;
-    let mut j = 0;
-    while j < n {
-        sum = mixed(sum, out[j]);
-        j += 1;
-    }
-    sum
+// A store, its room for the pieces of 16 messages, 4 of each neighbour, and the assembly buffer.
+#[derive(Clone, Copy)]
+struct Store {
+    rec: [u8; RECORD_SIZE],
+    room: [u8; ROOM_SIZE],
+    out: [u8; 65536],
 }
 
-fn call(rec: &mut [u8], room: &mut [u8], out: &mut [u8], l: Line, piece: &[u8]) -> Reply {
-    let a = (l.a % 256) as u8;
-    if l.call == 1 {
-        return reassembly_store::first_fragment(
-            rec,
-            room,
-            out,
-            l.neighbour,
-            l.id,
-            a,
-            (l.b % 4294967296) as u32,
-            l.second,
-            piece,
-        );
+impl Store {
+    // The call of a line, which may assemble in the first bytes of the buffer.
+    fn call(&mut self, l: &Line, piece: &[u8]) -> Result<Arrival, Refusal> {
+        match l.call {
+            Call::Arrive(fragment) => {
+                let out = &mut self.out[..];
+                reassembly_store::arrive(
+                    &mut self.rec,
+                    &mut self.room,
+                    &mut out[..l.room],
+                    l.neighbour,
+                    fragment,
+                    l.second,
+                    piece,
+                )
+            }
+            Call::Sweep => {
+                reassembly_store::sweep(&mut self.rec, l.second);
+                Ok(Arrival::Kept)
+            }
+            Call::New => {
+                reassembly_store::new(&mut self.rec)?;
+                Ok(Arrival::Kept)
+            }
+        }
     }
-    if l.call == 2 {
-        return reassembly_store::follow_on_fragment(
-            rec,
-            room,
-            out,
-            l.neighbour,
-            l.id,
-            a,
-            l.b == 1,
-            l.second,
-            piece,
-        );
-    }
-    if l.call == 3 {
-        return Reply {
-            number: reassembly_store::sweep(rec, l.second),
-            kind: 0,
-            expires: 0,
-            length: 0,
+
+    // Calls what a line says; whether the answer and the buffer are the line's.
+    fn agrees(&mut self, l: &Line) -> bool {
+        let mut piece = [0u8; 2048];
+        for (j, b) in piece[..l.len].iter_mut().enumerate() {
+            *b = byte(l.seed, j);
+        }
+        self.out[..l.room].fill(MARK);
+        let r = Reply::from(self.call(l, &piece[..l.len]));
+        let out = &self.out[..l.room];
+        let (Some(message), Some(rest)) = (out.get(..r.length), out.get(r.length..)) else {
+            return false;
         };
+        l.is_reply(r)
+            && u64::from(message.iter().fold(0, |sum, b| mixed(sum, *b))) == l.sum
+            && rest.iter().all(|b| *b == MARK)
     }
-    Reply {
-        number: reassembly_store::new(rec),
-        kind: 0,
-        expires: 0,
-        length: 0,
-    }
-}
-
-fn same_reply(r: Reply, l: Line) -> bool {
-    (r.number as u64 == l.number)
-        & (r.kind as u64 == l.kind)
-        & (r.expires as u64 == l.expires)
-        & (r.length as u64 == l.length)
-}
-
-// Whether a reply and the assembly buffer are what the line says.
-fn agrees(r: Reply, out: &[u8], l: Line) -> bool {
-    let n = r.length;
-    if out.len() < n {
-        return false;
-    }
-    same_reply(r, l) & (sum_of(out, n) == l.sum) & marked(out, n)
-}
-
-// Calls what a line says; whether the answer and the buffer are the line's.
-fn replay(rec: &mut [u8], room: &mut [u8], out: &mut [u8], piece: &mut [u8], l: Line) -> bool {
-    fill(piece, l.seed);
-    mark(out);
-    let r = call(rec, room, out, l, piece);
-    agrees(r, out, l)
-}
-
-// 1 where the line at a place agrees, else 0.
-fn run_line(
-    to: &impl Print,
-    text: &[u8],
-    at: usize,
-    rec: &mut [u8],
-    room: &mut [u8],
-    out: &mut [u8],
-    piece: &mut [u8],
-) -> io::Result<u64>
-    requires { (65536 ≤ length out.old) × (2048 ≤ length piece.old) }
-    ensures { IfOk result (λ n. n ≤ 1) }
-{
-    let l = line_at(text, at);
-    let n = l.len;
-    let m = l.room;
-    if replay(rec, room, &mut out[..m], &mut piece[..n], l) {
-        return Ok(1);
-    }
-    println!(to; "{at}: differs")?;
-    Ok(0)
 }
 
 // Runs each line, and prints how many agree.
-fn run(
-    to: &impl Print,
-    text: &[u8],
-    rec: &mut [u8],
-    room: &mut [u8],
-    out: &mut [u8],
-    piece: &mut [u8],
-) -> io::Result<()>
-    requires { (65536 ≤ length out.old) × (2048 ≤ length piece.old) }
-{
-    let mut at = 0;
-    let mut all: u64 = 0;
-    let mut same: u64 = 0;
-    while at < text.len() {
-        same += run_line(to, text, at, rec, room, out, piece)?;
-        all += 1;
-        at = lines::after_line(text, at);
+fn run(to: &impl Print, text: &[u8], store: &mut Store) -> io::Result<()> {
+    let mut tally = Tally::new();
+    for line in Lines::of(text) {
+        let mut fields = line;
+        let agrees = store.agrees(&Line::read(&mut fields));
+        tally.count(agrees);
+        if !agrees {
+            println!(to; "{}: differs", line.at)?;
+        }
     }
-    println!(to; "{all} calls, {same} agree")
-}
-
-// Room for the pieces of 16 messages, 4 of each neighbour.
-fn blank() -> [u8; ROOM_SIZE] {
-    [0u8; ROOM_SIZE]
+    println!(to; "{} calls, {} agree", tally.all, tally.agree)
 }
 
 fn main(rt: HostRuntime) -> io::Result<()> {
     let mut text = [0u8; 131072];
     let n = lines::read_full(&mut rt.stdin(), &mut text)?;
-    let mut rec = [0u8; RECORD_SIZE];
-    let mut room = blank();
-    let mut out = [0u8; 65536];
-    let mut piece = [0u8; 2048];
-    run(&rt, &text[..n], &mut rec, &mut room, &mut out, &mut piece)
+    let mut store = Store {
+        rec: [0; RECORD_SIZE],
+        room: [0; ROOM_SIZE],
+        out: [0; 65536],
+    };
+    run(&rt, &text[..n], &mut store)
 }

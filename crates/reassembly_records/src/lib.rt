@@ -1,4 +1,5 @@
 // A neighbour's share of the record: 4 heads of 24 bytes, then 4 tables of 128 entries of 4 bytes. All zero is the empty store.
+// The record is a slice with a clause: docs/FREE.md names these functions for every slice that is long enough, and an array would ask for more.
 #![tactic(auto)]
 
 ghost use Rattle.std.specs.Prelude.{◌≡◌, ◌+◌, ◌*◌, ◌<◌, ◌≤◌, length, replicate};
@@ -8,15 +9,16 @@ ghost use Rattle.reassembly.specs.Record.{head_of, entry_of, head_at, with_head,
 
 use reassembly::{ENTRY_SIZE, Entry, HEAD_SIZE, Head, TABLE_SIZE, TABLES_AT};
 
+#[tactic(auto, unfolding(reassembly::specs::Record::head_of))]
 fn head_of(b: &[u8]) -> Head
     requires { length b.now ≡ head_size }
     ensures { result ≡ head_of b.now }
 {
     Head {
-        id: wire_numbers::le_u32(b, 0),
-        opened: wire_numbers::le_u64(b, 4),
-        expires: wire_numbers::le_u32(b, 12),
-        total: wire_numbers::le_u16(b, 16),
+        id: wire_numbers::le(b, 0),
+        opened: wire_numbers::le(b, 4),
+        expires: wire_numbers::le(b, 12),
+        total: wire_numbers::le(b, 16),
         count: b[18],
         last: b[19],
         top: b[20],
@@ -25,6 +27,8 @@ fn head_of(b: &[u8]) -> Head
 }
 
 // The head of slot i.
+// Record and place stay two parameters: a struct of both would be made for one call.
+#[tactic(auto, using(wire::proofs::Slices::slice_is), unfolding(reassembly::specs::Record::head_at))]
 pub fn load_head(rec: &[u8], i: usize) -> Head
     requires { (share_size ≤ length rec.now) × (i < 4) }
     ensures { result ≡ head_at rec.now i }
@@ -39,25 +43,27 @@ pub fn save_head(rec: &mut [u8], i: usize, h: Head)
     ensures { rec.new ≡ with_head rec.old i h }
 {
     let at = i * HEAD_SIZE;
-    wire_numbers::put_u32_le(rec, at, h.id);
-    wire_numbers::put_u64_le(rec, at + 4, h.opened);
-    wire_numbers::put_u32_le(rec, at + 12, h.expires);
-    wire_numbers::put_u16_le(rec, at + 16, h.total);
+    wire_numbers::put_le(rec, at, h.id);
+    wire_numbers::put_le(rec, at + 4, h.opened);
+    wire_numbers::put_le(rec, at + 12, h.expires);
+    wire_numbers::put_le(rec, at + 16, h.total);
     let rest = [h.count, h.last, h.top, h.kind, 0, 0];
     wire::copy_to(rec, at + 18, &rest);
 }
 
+#[tactic(auto, unfolding(reassembly::specs::Record::entry_of))]
 fn entry_of(b: &[u8]) -> Entry
     requires { length b.now ≡ entry_size }
     ensures { result ≡ entry_of b.now }
 {
     Entry {
-        place: wire_numbers::le_u16(b, 0),
-        len: wire_numbers::le_u16(b, 2),
+        place: wire_numbers::le(b, 0),
+        len: wire_numbers::le(b, 2),
     }
 }
 
 // The entry of number k in slot i.
+#[tactic(auto, using(wire::proofs::Slices::slice_is), unfolding(reassembly::specs::Record::entry_at))]
 pub fn load_entry(rec: &[u8], i: usize, k: usize) -> Entry
     requires { (share_size ≤ length rec.now) × (i < 4) × (k < 128) }
     ensures { result ≡ entry_at rec.now i k }
@@ -72,8 +78,8 @@ pub fn save_entry(rec: &mut [u8], i: usize, k: usize, e: Entry)
     ensures { rec.new ≡ with_entry rec.old i k e }
 {
     let at = TABLES_AT + i * TABLE_SIZE + k * ENTRY_SIZE;
-    wire_numbers::put_u16_le(rec, at, e.place);
-    wire_numbers::put_u16_le(rec, at + 2, e.len);
+    wire_numbers::put_le(rec, at, e.place);
+    wire_numbers::put_le(rec, at + 2, e.len);
 }
 
 // n zeros from a place on; every other byte stays.
@@ -81,14 +87,12 @@ pub fn clear(b: &mut [u8], at: usize, n: usize)
     requires { at + n ≤ length b.old }
     ensures { b.new ≡ splice b.old at (replicate n 0) }
 {
-    let mut i = 0;
-    while i < n {
-        b[at + i] = 0;
-        i += 1;
-    }
+    let e = at + n;
+    b[at..e].fill(0);
 }
 
 // No number of slot i is held.
+#[tactic(auto, unfolding(reassembly::specs::Record::cleared))]
 pub fn clear_entries(rec: &mut [u8], i: usize)
     requires { (share_size ≤ length rec.old) × (i < 4) }
     ensures { rec.new ≡ cleared rec.old i }

@@ -6,6 +6,7 @@ ghost use Rattle.reassembly.specs.Summary.{open_count, with_open, lowered};
 use reassembly::OPEN_AT;
 
 // How many messages are open.
+#[tactic(auto, unfolding(reassembly::specs::Summary::open_count))]
 pub fn open_count(rec: &[u8]) -> u8
     requires { share_size ≤ length rec.now }
     ensures { result ≡ open_count rec.now }
@@ -14,6 +15,7 @@ pub fn open_count(rec: &[u8]) -> u8
 }
 
 // So many are open now.
+// Its answers stay: tried by unfolding, and the check does not find them.
 pub fn save_open(rec: &mut [u8], n: u8)
     requires { share_size ≤ length rec.old }
     ensures { rec.new ≡ with_open rec.old n }
@@ -21,20 +23,10 @@ pub fn save_open(rec: &mut [u8], n: u8)
     rec[OPEN_AT] = n;
 }
 
-fn less_one(n: u8) -> u8
-    ensures { result ≡ n - 1 }
-{
-    if n == 0 {
-        return 0;
-    }
-    n - 1
-}
-
 // One message less is open; never less than none.
 pub fn lower(rec: &mut [u8])
     requires { share_size ≤ length rec.old }
     ensures { rec.new ≡ lowered rec.old }
 {
-    let n = less_one(open_count(rec));
-    save_open(rec, n);
+    save_open(rec, open_count(rec).saturating_sub(1));
 }

@@ -1,40 +1,59 @@
 // A piece of a message taken into its neighbour's share of record and room: kept, or its message finished, or refused.
+// The record is a slice with a clause: docs/FREE.md names these functions for every slice that is long enough, and an array would ask for more; a struct round
+// the three &mut slices has each function promise that its fields stay the same references.
 #![tactic(auto)]
 
 ghost use Rattle.std.specs.Prelude.{◌≡◌, List, ℕ, ◌+◌, ◌<◌, ◌≤◌, length};
+ghost use Rattle.refusals.specs.Numbers.{number};
 ghost use Rattle.reassembly.specs.Sizes.{slot_size, share_room, share_size};
 ghost use Rattle.reassembly.specs.Calls.{lent, after, bare, kept_rec, kept_room, finished, put_in, compared, added, opened_in, opened_now, remembered_after, taken_piece, bad_size, off_number, first_taken, follow_on_taken};
+ghost use Rattle.reassembly.specs.Arrivals.{reply_of};
 
-use reassembly::{Entry, Head, Label, MESSAGE_SIZE, Reply, SLOT_SIZE};
-use reassembly_slots::{pieces, summary};
-use wire::{usize_from_u8, usize_from_u16};
+use reassembly::{Arrival, Entry, Head, Label, MESSAGE_SIZE, SLOT_SIZE};
+use reassembly_slots::pieces::{self, Joining};
+use reassembly_slots::summary;
+use refusals::Refusal;
 
-pub fn bare(n: u8) -> Reply
-    ensures { result ≡ bare n }
-{
-    Reply {
-        number: n,
-        kind: 0,
-        expires: 0,
-        length: 0,
+// A piece that neither 50 nor 51 refused: what comes with it, and its bytes.
+#[derive(Clone, Copy)]
+struct Piece<'a> {
+    label: Label,
+    bytes: &'a [u8],
+    ghost numbered: { label.number < 128 },
+    ghost sized: { length bytes.now ≤ 1500 },
+}
+
+impl Piece<'_> {
+    // Its number, as the place in its slot's table.
+    fn number(self) -> usize
+        ensures { (result ≡ self.entry.label.number) × (result < 128) }
+    {
+        usize::from(self.label.number)
+    }
+
+    // How many bytes it has, as an entry of a table says it.
+    // A number that is proved to fit is turned with as: try_from would answer a Result that cannot fail.
+    fn len(self) -> u16
+        ensures { (result ≡ length self.entry.bytes.now) × (result ≤ 1500) }
+    {
+        self.bytes.len() as u16
     }
 }
 
-// A piece is kept as number k of slot i, after the `total` bytes that the slot holds; the slot's head is then g.
-fn keep(rec: &mut [u8], room: &mut [u8], i: usize, k: usize, total: u16, g: Head, bytes: &[u8])
-    requires { (share_size ≤ length rec.old) × (share_room ≤ length room.old) × (i < 4) × (k < 128) × (total + length bytes.now ≤ slot_size) }
-    ensures rec_after { rec.new ≡ kept_rec rec.old i k total (length bytes.now) g }
-    ensures room_after { room.new ≡ kept_room room.old i total bytes.now }
+// A piece is kept in slot i, after the `total` bytes that the slot holds; the slot's head is then g.
+fn keep(rec: &mut [u8], room: &mut [u8], i: usize, total: u16, g: Head, piece: Piece)
+    requires { (share_size ≤ length rec.old) × (share_room ≤ length room.old) × (i < 4) × (total + length piece.bytes.now ≤ slot_size) }
+    ensures rec_after { rec.new ≡ kept_rec rec.old i piece.entry.label.number total (length piece.entry.bytes.now) g }
+    ensures room_after { room.new ≡ kept_room room.old i total piece.entry.bytes.now }
 {
-    let n = bytes.len();
-    wire::copy_to(room, i * SLOT_SIZE + usize_from_u16(total), bytes);
+    wire::copy_to(room, i * SLOT_SIZE + usize::from(total), piece.bytes);
     reassembly_records::save_entry(
         rec,
         i,
-        k,
+        piece.number(),
         Entry {
             place: total,
-            len: n as u16,
+            len: piece.len(),
         },
     );
     reassembly_records::save_head(rec, i, g);
@@ -46,30 +65,32 @@ fn finish(
     room: &[u8],
     out: &mut [u8],
     i: usize,
-    l: Label,
     g: Head,
-    bytes: &[u8],
-) -> Reply
-    requires { (share_size ≤ length rec.old) × (share_room ≤ length room.now) × (i < 4) × (g.last < 128) × (length bytes.now ≤ 1500) }
-    ensures { after result (lent rec.new room.now out.new) ≡ finished (lent rec.old room.now out.old) i l g bytes.now }
+    piece: Piece,
+) -> Result<Arrival, Refusal>
+    requires { (share_size ≤ length rec.old) × (share_room ≤ length room.now) × (i < 4) × (g.last < 128) }
+    ensures { after (reply_of result) (lent rec.new room.now out.new) ≡ finished (lent rec.old room.now out.old) i piece.entry.label g piece.entry.bytes.now }
 {
-    let k = usize_from_u8(l.number);
-    let last = usize_from_u8(g.last);
-    let m = pieces::measure(rec, i, k, bytes, last);
-    if m.outside {
-        return bare(59);
+    let last = usize::from(g.last);
+    let joining = Joining {
+        rec,
+        slot: i,
+        number: piece.number(),
+        bytes: piece.bytes,
+    };
+    let Some(size) = joining.measure(last) else {
+        return Err(Refusal::LentShort);
+    };
+    if out.len() < size {
+        return Err(Refusal::BufferShort);
     }
-    if out.len() < m.size {
-        return bare(56);
-    }
-    pieces::assemble(rec, room, out, i, k, bytes, last);
+    joining.assemble(room, out, last);
     reassembly_records::save_head(rec, i, reassembly_judge::no_head());
-    Reply {
-        number: 60,
+    Ok(Arrival::Finished {
         kind: g.kind,
         expires: g.expires,
-        length: m.size,
-    }
+        length: size,
+    })
 }
 
 // A piece that fits slot i, whose head is h: 53, or the message is finished, or the piece is kept.
@@ -79,96 +100,101 @@ fn put(
     out: &mut [u8],
     i: usize,
     h: Head,
-    l: Label,
-    bytes: &[u8],
-) -> Reply
-    requires { (share_size ≤ length rec.old) × (share_room ≤ length room.old) × (i < 4) × (l.number < 128) × (length bytes.now ≤ 1500) }
-    ensures { after result (lent rec.new room.new out.new) ≡ put_in (lent rec.old room.old out.old) i h l bytes.now }
+    piece: Piece,
+) -> Result<Arrival, Refusal>
+    requires { (share_size ≤ length rec.old) × (share_room ≤ length room.old) × (i < 4) }
+    ensures { after (reply_of result) (lent rec.new room.new out.new) ≡ put_in (lent rec.old room.old out.old) i h piece.entry.label piece.entry.bytes.now }
 {
-    let n = bytes.len();
-    if MESSAGE_SIZE < usize_from_u16(h.total) + n {
-        return bare(53);
+    if MESSAGE_SIZE < usize::from(h.total) + piece.bytes.len() {
+        return Err(Refusal::MessageLong);
     }
-    let g = reassembly_judge::grown(h, l, n as u16);
+    let g = reassembly_judge::grown(h, piece.label, piece.len());
     if reassembly_judge::is_complete(g) {
-        return finish(rec, room, out, i, l, g, bytes);
+        return finish(rec, room, out, i, g, piece);
     }
-    keep(rec, room, i, usize_from_u8(l.number), h.total, g, bytes);
-    bare(0)
+    keep(rec, room, i, h.total, g, piece);
+    Ok(Arrival::Kept)
 }
 
 // A piece whose number is held in slot i, whose head is h: 59, or 54 or 55.
-fn compare(rec: &[u8], room: &[u8], i: usize, h: Head, l: Label, bytes: &[u8]) -> u8
-    requires { (share_size ≤ length rec.now) × (share_room ≤ length room.now) × (i < 4) × (l.number < 128) }
-    ensures { result ≡ compared rec.now room.now i h l bytes.now }
+fn compare(rec: &[u8], room: &[u8], i: usize, h: Head, piece: Piece) -> Refusal
+    requires { (share_size ≤ length rec.now) × (share_room ≤ length room.now) × (i < 4) }
+    ensures { number result ≡ compared rec.now room.now i h piece.entry.label piece.entry.bytes.now }
 {
-    let k = usize_from_u8(l.number);
+    let k = piece.number();
     let e = reassembly_records::load_entry(rec, i, k);
     if pieces::outside(e) {
-        return 59;
+        return Refusal::LentShort;
     }
-    reassembly_judge::again(h, l, pieces::piece(rec, room, i, k), bytes)
+    reassembly_judge::again(h, piece.label, pieces::piece(rec, room, i, k), piece.bytes)
 }
 
 // A piece of the open message of slot i: it is compared with the held one, or 55, or it is put.
-fn add(rec: &mut [u8], room: &mut [u8], out: &mut [u8], i: usize, l: Label, bytes: &[u8]) -> Reply
-    requires { (share_size ≤ length rec.old) × (share_room ≤ length room.old) × (i < 4) × (l.number < 128) × (length bytes.now ≤ 1500) }
-    ensures { after result (lent rec.new room.new out.new) ≡ added (lent rec.old room.old out.old) i l bytes.now }
+fn add(
+    rec: &mut [u8],
+    room: &mut [u8],
+    out: &mut [u8],
+    i: usize,
+    piece: Piece,
+) -> Result<Arrival, Refusal>
+    requires { (share_size ≤ length rec.old) × (share_room ≤ length room.old) × (i < 4) }
+    ensures { after (reply_of result) (lent rec.new room.new out.new) ≡ added (lent rec.old room.old out.old) i piece.entry.label piece.entry.bytes.now }
 {
     let h = reassembly_records::load_head(rec, i);
-    let k = usize_from_u8(l.number);
-    let e = reassembly_records::load_entry(rec, i, k);
+    let e = reassembly_records::load_entry(rec, i, piece.number());
     if e.len != 0 {
-        return bare(compare(rec, room, i, h, l, bytes));
+        return Err(compare(rec, room, i, h, piece));
     }
-    if reassembly_judge::misfits(h, l) {
-        return bare(55);
+    if reassembly_judge::misfits(h, piece.label) {
+        return Err(Refusal::PieceConflict);
     }
-    put(rec, room, out, i, h, l, bytes)
+    put(rec, room, out, i, h, piece)
 }
 
 // A piece of a message that is not open is kept in the free slot i.
-fn open_in(rec: &mut [u8], room: &mut [u8], i: usize, l: Label, second: u64, bytes: &[u8])
-    requires { (share_size ≤ length rec.old) × (share_room ≤ length room.old) × (i < 4) × (l.number < 128) × (length bytes.now ≤ 1500) }
-    ensures { (out : List ℕ) → after (bare 0) (lent rec.new room.new out) ≡ opened_in (lent rec.old room.old out) i l second bytes.now }
+fn open_in(rec: &mut [u8], room: &mut [u8], i: usize, second: u64, piece: Piece)
+    requires { (share_size ≤ length rec.old) × (share_room ≤ length room.old) × (i < 4) }
+    ensures { (out : List ℕ) → after (bare 0) (lent rec.new room.new out) ≡ opened_in (lent rec.old room.old out) i piece.entry.label second piece.entry.bytes.now }
 {
-    let n = bytes.len();
     reassembly_records::clear_entries(rec, i);
-    let g = reassembly_judge::grown(reassembly_judge::new_head(l, second), l, n as u16);
-    keep(rec, room, i, usize_from_u8(l.number), 0, g, bytes);
+    let h = reassembly_judge::new_head(piece.label, second);
+    let g = reassembly_judge::grown(h, piece.label, piece.len());
+    keep(rec, room, i, 0, g, piece);
 }
 
 // A piece of a message that is not open: 57 where its id is remembered, or 52, or it is kept in the first free slot. 52 is judged by the summary; no slot is free
 // below that only where no call made the share.
-fn open(rec: &mut [u8], room: &mut [u8], l: Label, second: u64, bytes: &[u8]) -> Reply
-    requires { (share_size ≤ length rec.old) × (share_room ≤ length room.old) × (l.number < 128) × (length bytes.now ≤ 1500) }
-    ensures { (out : List ℕ) → after result (lent rec.new room.new out) ≡ opened_now (lent rec.old room.old out) l second bytes.now }
+fn open(rec: &mut [u8], room: &mut [u8], second: u64, piece: Piece) -> Result<Arrival, Refusal>
+    requires { (share_size ≤ length rec.old) × (share_room ≤ length room.old) }
+    ensures { (out : List ℕ) → after (reply_of result) (lent rec.new room.new out) ≡ opened_now (lent rec.old room.old out) piece.entry.label second piece.entry.bytes.now }
 {
-    if reassembly_memory::remembers(rec, l.id) {
-        return bare(57);
+    if reassembly_memory::remembers(rec, piece.label.id) {
+        return Err(Refusal::AlreadyFinished);
     }
     let n = summary::open_count(rec);
     if 4 <= n {
-        return bare(52);
+        return Err(Refusal::StoreFull);
     }
-    let i = reassembly_slots::vacant(rec);
-    if 4 <= i {
-        return bare(52);
-    }
-    open_in(rec, room, i, l, second, bytes);
+    let Some(i) = reassembly_slots::vacant(rec) else {
+        return Err(Refusal::StoreFull);
+    };
+    open_in(rec, room, i, second, piece);
     summary::save_open(rec, n + 1);
-    bare(0)
+    Ok(Arrival::Kept)
 }
 
-// A piece was answered n: with 60 its message is finished, one less is open, and it is remembered with this second.
-fn remember_finished(rec: &mut [u8], n: u8, id: u32, second: u64)
+// A piece was answered: where it finished its message, one less is open, and that is remembered with this second.
+fn remember_finished(rec: &mut [u8], answer: Result<Arrival, Refusal>, id: u32, second: u64)
     requires { share_size ≤ length rec.old }
-    ensures { rec.new ≡ remembered_after rec.old n (record { id = id; second = second }) }
+    ensures { rec.new ≡ remembered_after rec.old (reply_of answer).number (record { id = id; second = second }) }
 {
-    if n == 60 {
-        summary::lower(rec);
-        reassembly_memory::remember(rec, id, second);
-        return;
+    match answer {
+        Ok(Arrival::Finished { .. }) => {
+            summary::lower(rec);
+            reassembly_memory::remember(rec, id, second);
+        }
+        Ok(Arrival::Kept) => {}
+        Err(_) => {}
     }
 }
 
@@ -177,23 +203,23 @@ fn take(
     rec: &mut [u8],
     room: &mut [u8],
     out: &mut [u8],
-    l: Label,
     second: u64,
-    bytes: &[u8],
-) -> Reply
-    requires { (share_size ≤ length rec.old) × (share_room ≤ length room.old) × (l.number < 128) × (length bytes.now ≤ 1500) }
-    ensures { after result (lent rec.new room.new out.new) ≡ taken_piece (lent rec.old room.old out.old) l second bytes.now }
+    piece: Piece,
+) -> Result<Arrival, Refusal>
+    requires { (share_size ≤ length rec.old) × (share_room ≤ length room.old) }
+    ensures { after (reply_of result) (lent rec.new room.new out.new) ≡ taken_piece (lent rec.old room.old out.old) piece.entry.label second piece.entry.bytes.now }
 {
-    let i = reassembly_slots::find(rec, l.id);
-    if i < 4 {
-        let r = add(rec, room, out, i, l, bytes);
-        remember_finished(rec, r.number, l.id, second);
-        return r;
+    if let Some(i) = reassembly_slots::find(rec, piece.label.id) {
+        let answer = add(rec, room, out, i, piece);
+        remember_finished(rec, answer, piece.label.id, second);
+        return answer;
     }
-    open(rec, room, l, second, bytes)
+    open(rec, room, second, piece)
 }
 
 // 50: a piece has 1 to 1,500 bytes.
+// 50 and 51 are two rules of 01, each with a definition of its own.
+#[tactic(auto, unfolding(reassembly::specs::Calls::bad_size))]
 fn bad_size(n: usize) -> bool
     ensures { result ≡ bad_size n }
 {
@@ -201,6 +227,7 @@ fn bad_size(n: usize) -> bool
 }
 
 // 51: a follow-on piece has a number from 1 to 127.
+#[tactic(auto, unfolding(reassembly::specs::Calls::off_number))]
 fn off_number(k: u8) -> bool
     ensures { result ≡ off_number k }
 {
@@ -208,21 +235,22 @@ fn off_number(k: u8) -> bool
 }
 
 // A first piece: 50, or it is taken.
+// Two functions: docs/FREE.md names both for every label, and they differ by 51; what is alike is take.
 pub fn take_first(
     rec: &mut [u8],
     room: &mut [u8],
     out: &mut [u8],
-    l: Label,
+    label: Label,
     second: u64,
     bytes: &[u8],
-) -> Reply
-    requires { (share_size ≤ length rec.old) × (share_room ≤ length room.old) × (l.number < 128) }
-    ensures { after result (lent rec.new room.new out.new) ≡ first_taken (lent rec.old room.old out.old) l second bytes.now }
+) -> Result<Arrival, Refusal>
+    requires { (share_size ≤ length rec.old) × (share_room ≤ length room.old) × (label.number < 128) }
+    ensures { after (reply_of result) (lent rec.new room.new out.new) ≡ first_taken (lent rec.old room.old out.old) label second bytes.now }
 {
     if bad_size(bytes.len()) {
-        return bare(50);
+        return Err(Refusal::PieceLength);
     }
-    take(rec, room, out, l, second, bytes)
+    take(rec, room, out, second, Piece { label, bytes })
 }
 
 // A follow-on piece: 50, or 51, or it is taken.
@@ -230,18 +258,18 @@ pub fn take_follow_on(
     rec: &mut [u8],
     room: &mut [u8],
     out: &mut [u8],
-    l: Label,
+    label: Label,
     second: u64,
     bytes: &[u8],
-) -> Reply
+) -> Result<Arrival, Refusal>
     requires { (share_size ≤ length rec.old) × (share_room ≤ length room.old) }
-    ensures { after result (lent rec.new room.new out.new) ≡ follow_on_taken (lent rec.old room.old out.old) l second bytes.now }
+    ensures { after (reply_of result) (lent rec.new room.new out.new) ≡ follow_on_taken (lent rec.old room.old out.old) label second bytes.now }
 {
     if bad_size(bytes.len()) {
-        return bare(50);
+        return Err(Refusal::PieceLength);
     }
-    if off_number(l.number) {
-        return bare(51);
+    if off_number(label.number) {
+        return Err(Refusal::PieceNumber);
     }
-    take(rec, room, out, l, second, bytes)
+    take(rec, room, out, second, Piece { label, bytes })
 }

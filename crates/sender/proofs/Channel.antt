@@ -12,10 +12,9 @@ use Rattle.wire.proofs.Tests.{and_both, or_either}
 use Rattle.acks.specs.Window.{window, keep}
 use Rattle.acks.specs.History.{Packets, answer_to, highest_of, among, receive, noted, received_after, received}
 use Rattle.acks.specs.Tracking.{fresh, register_of, register_all}
-use Rattle.acks.specs.Reporting.{ack_info, pair_bytes}
+use Rattle.acks.specs.Reporting.{Report, ack_info, pair_bytes}
 use Rattle.acks.specs.Expanding.{ack_numbers, goes_below}
 use Rattle.acks.specs.declared.Tracker.{Tracker}
-use Rattle.acks.specs.declared.AckInfo.{AckInfo}
 use Rattle.acks.proofs.Answers.{above_44}
 use Rattle.acks.proofs.Faithful.{Faithful, told}
 use Rattle.acks.proofs.Histories.{registered_is}
@@ -76,7 +75,7 @@ module _ (past : List Event) (through count : ℕ) (pairs : List ℕ) (r : Repor
   abbrev then : List ℕ
   then = heard (drop r.ago past)
 
-  abbrev report : AckInfo
+  abbrev report : Report
   report = ack_info (far (drop r.ago past))
 
   -- it is a faithful one

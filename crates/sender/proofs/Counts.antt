@@ -2,24 +2,26 @@
 use mathlib.Core.Path.{◌≡◌, refl}
 use mathlib.Core.Bool.{Bool, true, false, cond}
 use mathlib.Core.List.{List}
-use Prim.Native.Nat.{ℕ, ◌≤◌, ◌<◌}
+use Prim.Native.Nat.{ℕ, ◌≤◌, ◌<◌, min}
 use native.Mathlib.Omega.{arith}
 use lib.Dec.{ltb}
 use lib.ListN.{length}
-use borrow.Author.Tests.{lt-ltb, le-ltb, ltb-true, ltb-false}
+use borrow.Author.Tests.{ltb-true, ltb-false}
 use Rattle.wire.specs.Numbers.{little_at}
 use Rattle.wire.proofs.Series.{length_series}
 use Rattle.sender.specs.Sizes.{most_outstanding, outstanding_at}
 use Rattle.sender.specs.Recorded.{outstanding_count, packet_at, sender_at}
 
 module _ (r : List ℕ) where
-  pub count_below : (n : ℕ) → n ≡ little_at 4 r outstanding_at → n < most_outstanding → n ≡ outstanding_count r
+  -- it is the smaller of what stands there and 256
+  pub count_min : (n : ℕ) → n ≡ little_at 4 r outstanding_at → min n most_outstanding ≡ outstanding_count r
   unfolding outstanding_count
-  count_below n e h = rw (← e, lt-ltb n most_outstanding h) refl
-
-  pub count_above : (n : ℕ) → n ≡ little_at 4 r outstanding_at → most_outstanding ≤ n → most_outstanding ≡ outstanding_count r
-  unfolding outstanding_count
-  count_above n e h = rw (← e, le-ltb n most_outstanding h) refl
+  count_min n e = rw e (go (ltb (little_at 4 r outstanding_at) most_outstanding) refl)
+    where
+      go : (b : Bool) → ltb (little_at 4 r outstanding_at) most_outstanding ≡ b
+          → min (little_at 4 r outstanding_at) most_outstanding ≡ cond (ltb (little_at 4 r outstanding_at) most_outstanding) (little_at 4 r outstanding_at) most_outstanding
+      go true q = rw q (let l : little_at 4 r outstanding_at < most_outstanding = ltb-true (little_at 4 r outstanding_at) most_outstanding q in omega arith)
+      go false q = rw q (let l : most_outstanding ≤ little_at 4 r outstanding_at = ltb-false (little_at 4 r outstanding_at) most_outstanding q in omega arith)
 
   pub count_most : outstanding_count r ≤ most_outstanding
   unfolding outstanding_count

@@ -5,12 +5,13 @@ use mathlib.Core.List.{List}
 use Prim.Native.Nat.{ℕ, ◌≤◌, ◌<◌}
 use native.Mathlib.Omega.{arith}
 use lib.Dec.{ltb, leb, eqb}
-use lib.ListN.{length, replicate}
+use lib.ListN.{length, take, replicate}
+use lib.Seq.{length-take-le}
 use borrow.Author.Tests.{lt-ltb, le-ltb, ne_eqb}
 use Rattle.wire.specs.Parts.{splice}
 use Rattle.wire.specs.Numbers.{little_at}
 use Rattle.acks.specs.History.{among}
-use Rattle.sender.specs.declared.Given.{Given}
+use Rattle.sender.specs.Outcomes.{Told}
 use Rattle.sender.specs.Sizes.{most_outstanding, last_number, sender_size}
 use Rattle.sender.specs.Sender.{Call, send, resend, numbers_of, place_of, call_answer, answer_by, taken, number_given}
 use Rattle.sender.specs.Recorded.{sender_short, outstanding_count, sender_at, sender_bytes, lent_answer, new_sender_record, answer_there, given_there, sender_after}
@@ -18,6 +19,10 @@ use Rattle.sender.proofs.Counts.{length_outstanding}
 use Rattle.sender.proofs.Lists.{length_numbers}
 use Rattle.sender.proofs.Places.{among_place}
 use Rattle.sender.proofs.Answers as Answers
+
+-- n numbers in front, each put to 0
+pub cleared : (r f : List ℕ) (n : ℕ) → n ≤ length r → f ≡ replicate (length (take n r)) 0 → f ≡ replicate n 0
+cleared r f n h e = e ∙ ap (λ (k : ℕ). replicate k 0) (length-take-le n r h)
 
 module _ (r : List ℕ) where
   pub is_short_lem : length r < sender_size → sender_short r ≡ true
@@ -53,17 +58,17 @@ module _ (r : List ℕ) where
   short_59 c h = rw (is_short_lem h) refl
 
   -- a refused call answers its number, gives out 0, and leaves every byte
-  pub refused_call_lem : (c : Call) (g : Given) (a : ℕ) → g ≡ record { answer = a; number = 0 } → answer_there r c ≡ a → 0 < a → (g ≡ record { answer = answer_there r c; number = given_there r c }) × (r ≡ sender_after r c)
+  pub refused_call_lem : (c : Call) (a : ℕ) → answer_there r c ≡ a → 0 < a → ◌≡◌ {A = Told} (record { answer = a; value = 0 }) (record { answer = answer_there r c; value = given_there r c }) × (r ≡ sender_after r c)
   unfolding given_there sender_after
-  refused_call_lem c g a e f h =
+  refused_call_lem c a f h =
       let ne : eqb a 0 ≡ false = ne_eqb a 0 (λ z. omega arith) in
-      (rw (f, ne) e, rw (f, ne) refl)
+      (rw (f, ne) refl, rw (f, ne) refl)
 
   -- a taken one answers 0, gives out the next number, and leaves the sender after it
-  pub taken_call_lem : (c : Call) (g : Given) (n : ℕ) (z : List ℕ) → g ≡ record { answer = 0; number = n } → n ≡ number_given (sender_at r) c → z ≡ splice r 0 (sender_bytes (taken (sender_at r) c)) → answer_there r c ≡ 0
-      → (g ≡ record { answer = answer_there r c; number = given_there r c }) × (z ≡ sender_after r c)
+  pub taken_call_lem : (c : Call) (n : ℕ) (z : List ℕ) → n ≡ number_given (sender_at r) c → z ≡ splice r 0 (sender_bytes (taken (sender_at r) c)) → answer_there r c ≡ 0
+      → ◌≡◌ {A = Told} (record { answer = 0; value = n }) (record { answer = answer_there r c; value = given_there r c }) × (z ≡ sender_after r c)
   unfolding given_there sender_after
-  taken_call_lem c g n z e m w f = (rw (f, ← m) e, rw f w)
+  taken_call_lem c n z m w f = (rw (f, ← m) refl, rw f w)
 
   -- ---- a send and a resend of a record that is long enough
 

@@ -2,9 +2,8 @@
 use Rattle.std.specs.Prelude.{◌≡◌, Bool, true, false, ◌&&◌, ◌||◌, List, [], ◌∷◌, ◌++◌, ℕ, eqb, drop}
 use Rattle.acks.specs.History.{among}
 use Rattle.acks.specs.Tracking.{fresh, register_of}
-use Rattle.acks.specs.Reporting.{ack_info, pair_bytes}
+use Rattle.acks.specs.Reporting.{Report, ack_info, pair_bytes}
 use Rattle.acks.specs.declared.Tracker.{Tracker}
-use Rattle.acks.specs.declared.AckInfo.{AckInfo}
 use Rattle.sender.specs.Sender.{Call, send, resend, ack}
 use Rattle.sender.specs.History.{given_out, settled}
 
@@ -54,7 +53,7 @@ OnlyFromSender (call c ∷ past) = OnlyFromSender past
 OnlyFromSender (arrives n ∷ past) = (among (given_out (calls_of past)) n ≡ true) × OnlyFromSender past
 
 -- an Ack block says what a report says
-pub record Says (r : AckInfo) (through count : ℕ) (pairs : List ℕ) : Type 0 where
+pub record Says (r : Report) (through count : ℕ) (pairs : List ℕ) : Type 0 where
   pub reported : r.number ≡ 0
   pub same_through : through ≡ r.through
   pub same_count : count ≡ r.count

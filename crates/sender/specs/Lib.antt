@@ -4,5 +4,7 @@ pub mod Sender
 pub mod History
 pub mod Channel
 pub mod Recorded
+pub mod Outcomes
+pub mod Packets
 pub mod Settling
 pub mod Readings

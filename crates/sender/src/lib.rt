@@ -7,6 +7,7 @@ pub const MOST_OUTSTANDING: usize = 256;
 pub const LAST_NUMBER: u32 = 4294967295;
 
 // Where things stand in the record: the count of outstanding packets, the packets, and their bytes each.
+// A count and the packets behind it, in the record's bytes that C keeps.
 pub const OUTSTANDING_AT: usize = 4;
 
 pub const PACKETS_AT: usize = 8;
@@ -16,16 +17,10 @@ pub const PACKET_SIZE: usize = 16;
 // The bytes of a sender's record.
 pub const SENDER_SIZE: usize = 4104;
 
-// What a send or a resend answers: 0 and the number that it gave out; or a refusal.
-#[derive(Clone, Copy)]
-pub struct Given {
-    pub answer: u32,
+// A packet: its number, the second it was sent under that number, and how often it had been resent by then.
+#[derive(Clone, Copy, Debug, PartialEq, Eq)]
+pub struct Packet {
     pub number: u32,
-}
-
-// What an ack answers: 0 and how many packets it settled; or a refusal.
-#[derive(Clone, Copy)]
-pub struct Acked {
-    pub answer: u32,
-    pub count: usize,
+    pub second: u64,
+    pub resends: u32,
 }

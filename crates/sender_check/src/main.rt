@@ -1,204 +1,169 @@
 // Replays calls of the sender on one record, and compares each answer and the list after it; tests/sender_list.py says how the list was made and what its lines are.
 #![tactic(auto)]
 
-mod fields;
+ghost use Rattle.std.specs.Prelude.{◌≤◌};
 
-ghost use Rattle.std.specs.Prelude.{◌≤◌, ◌<◌, IfOk};
-
-use sender::{Acked, Given, MOST_OUTSTANDING, SENDER_SIZE};
+use acks_expand::Ack;
+use lines::{Fields, Lines, Tally};
+use refusals::Refusal;
+use sender::{MOST_OUTSTANDING, SENDER_SIZE};
 use std::io;
 
-// The bytes of 256 packets in a line.
+// The bytes of a packet in a line, and of 256 of them.
+const PACKET: usize = 16;
+
 const PACKETS: usize = 4096;
 
 // What the list of settled numbers holds before a call.
 const MARK: u32 = 7;
 
-fn blank() -> [u8; SENDER_SIZE] {
-    [0; SENDER_SIZE]
+// The number that is next; one that is none reads as one that no good line has.
+fn number(fields: &mut Fields) -> u64 {
+    fields.number().unwrap_or(u64::MAX)
 }
 
-fn marked() -> [u32; MOST_OUTSTANDING] {
-    [MARK; MOST_OUTSTANDING]
+// Its low four bytes.
+fn word(fields: &mut Fields) -> u32 {
+    (number(fields) % 4294967296) as u32
 }
 
-// Whether the k-th outstanding packet is the k-th of a line.
-fn packet_is(rec: &[u8; SENDER_SIZE], k: usize, want: &[u8; PACKETS]) -> bool
-    requires { k < 256 }
-{
-    let mut out = [0u64; 3];
-    sender_list::packet_in(rec, k, &mut out);
-    let at = 16 * k;
-    (out[0] == wire_numbers::be_u32(want, at) as u64)
-        & (out[1] == wire_numbers::be_u64(want, at + 4))
-        & (out[2] == wire_numbers::be_u32(want, at + 12) as u64)
+// Whether the k-th outstanding packet is these bytes: its number, its second and how often it was sent again.
+fn packet_is(rec: &[u8; SENDER_SIZE], k: usize, want: &[u8]) -> bool {
+    let Some(p) = sender_list::packet_in(rec, k) else {
+        return false;
+    };
+    let Some((number, rest)) = want.split_first_chunk::<4>() else {
+        return false;
+    };
+    let Some((second, rest)) = rest.split_first_chunk::<8>() else {
+        return false;
+    };
+    *number == p.number.to_be_bytes()
+        && *second == p.second.to_be_bytes()
+        && rest == p.resends.to_be_bytes().as_slice()
 }
 
-fn packets_are(rec: &[u8; SENDER_SIZE], n: usize, want: &[u8; PACKETS]) -> bool
-    requires { n ≤ 256 }
-{
-    let mut ok = true;
-    let mut k = 0;
-    while k < n {
-        ok = ok & packet_is(rec, k, want);
-        k += 1;
-    }
-    ok
-}
-
-// Whether the outstanding packets are those at a place of the text; a dot stands for any.
-fn listed(text: &[u8], at: usize, rec: &[u8; SENDER_SIZE]) -> bool {
+// Whether the outstanding packets are those of the next field; a dot stands for any.
+// The line's fields and the state it is asked of stay two parameters: a struct of two references would be made for one call.
+fn listed(fields: &mut Fields, rec: &[u8; SENDER_SIZE]) -> bool {
     let mut want = [0u8; PACKETS];
-    let mut out = [0u64; 3];
-    if fields::letter(text, at) == b'.' {
+    let mut ahead = *fields;
+    if ahead.next_field().first() == Some(&b'.') {
         return true;
     }
-    let n = fields::bytes(text, at, &mut want);
-    let count = sender_list::packet_in(rec, 0, &mut out);
+    let n = fields.bytes_or_all(&mut want);
+    let count = sender_list::outstanding_in(rec).unwrap_or(0);
     if MOST_OUTSTANDING < count {
         return false;
     }
-    (16 * count == n) & packets_are(rec, count, &want)
+    PACKET * count == n
+        && want[..n]
+            .chunks_exact(PACKET)
+            .enumerate()
+            .all(|(k, packet)| packet_is(rec, k, packet))
+}
+
+// Whether a call answers as the line says: 0 and a value, or a refusal's number and 0.
+fn is_told(answer: Result<u64, Refusal>, number: u64, value: u64) -> bool {
+    match answer {
+        Ok(n) => number == 0 && value == n,
+        Err(refusal) => number == u64::from(refusal.number()) && value == 0,
+    }
 }
 
 // Whether a send or a resend answers as the line says, and leaves its list.
-fn given(text: &[u8], at: usize, rec: &[u8; SENDER_SIZE], g: Given) -> bool {
-    let number = lines::after(text, at);
-    (g.answer as u64 == fields::number(text, at))
-        & (g.number as u64 == fields::number(text, number))
-        & listed(text, lines::after(text, number), rec)
+fn given(fields: &mut Fields, rec: &[u8; SENDER_SIZE], g: Result<u32, Refusal>) -> bool {
+    let answer = number(fields);
+    let sent = number(fields);
+    is_told(g.map(u64::from), answer, sent) && listed(fields, rec)
 }
 
-// So many sends at one second: what the last one answers.
-fn sends(rec: &mut [u8; SENDER_SIZE], times: u64, second: u64) -> Given {
-    let mut k = 1;
-    while k < times {
-        sender_list::send_in(rec, second);
-        k += 1;
+// So many sends at one second, at least one: what the last one answers.
+fn sends(rec: &mut [u8; SENDER_SIZE], times: u64, second: u64) -> Result<u32, Refusal> {
+    for _ in 1..times {
+        let _ = sender_list::send_in(rec, second);
     }
     sender_list::send_in(rec, second)
 }
 
-fn send(text: &[u8], at: usize, rec: &mut [u8; SENDER_SIZE]) -> bool {
-    let second = lines::after(text, at);
-    let g = sends(rec, fields::number(text, at), fields::number(text, second));
-    given(text, lines::after(text, second), rec, g)
+fn send(fields: &mut Fields, rec: &mut [u8; SENDER_SIZE]) -> bool {
+    let times = number(fields);
+    let second = number(fields);
+    let g = sends(rec, times, second);
+    given(fields, rec, g)
 }
 
-fn resend(text: &[u8], at: usize, rec: &mut [u8; SENDER_SIZE]) -> bool {
-    let second = lines::after(text, at);
-    let g = sender_list::resend_in(rec, fields::word(text, at), fields::number(text, second));
-    given(text, lines::after(text, second), rec, g)
+fn resend(fields: &mut Fields, rec: &mut [u8; SENDER_SIZE]) -> bool {
+    let old = word(fields);
+    let second = number(fields);
+    let g = sender_list::resend_in(rec, old, second);
+    given(fields, rec, g)
 }
 
-// Whether the k-th settled number is the k-th of a line's n bytes, or stayed where there are not so many.
-fn settled_is(number: u32, k: usize, want: &[u8; 1024], n: usize) -> bool
-    requires { k < 256 }
+// Whether the first n settled numbers are those of the line's bytes, and the others stayed.
+fn settled_are(settled: &[u32; MOST_OUTSTANDING], want: &[u8; 1024], n: usize) -> bool
+    requires { n ≤ 256 }
 {
-    if 4 * k < n {
-        return number == wire_numbers::be_u32(want, 4 * k);
-    }
-    number == MARK
+    settled[..n]
+        .iter()
+        .zip(want.chunks_exact(4))
+        .all(|(number, four)| four == number.to_be_bytes().as_slice())
+        && settled[n..].iter().all(|number| *number == MARK)
 }
 
-fn settled_are(settled: &[u32; MOST_OUTSTANDING], want: &[u8; 1024], n: usize) -> bool {
-    let mut ok = true;
-    let mut k = 0;
-    while k < MOST_OUTSTANDING {
-        ok = ok & settled_is(settled[k], k, want, n);
-        k += 1;
-    }
-    ok
-}
-
-// Whether an ack settled the numbers at a place of the text.
-fn settles(text: &[u8], at: usize, a: Acked, settled: &[u32; MOST_OUTSTANDING]) -> bool {
-    let mut want = [0u8; 1024];
-    let n = fields::bytes(text, at, &mut want);
-    (a.count == n / 4) & settled_are(settled, &want, n)
-}
-
-// An ack of these pairs, whose line goes on at a place.
-fn ack_of(text: &[u8], at: usize, rec: &mut [u8; SENDER_SIZE], pairs: &[u8]) -> bool {
-    let mut settled = marked();
-    let through = lines::after(text, at);
-    let count = lines::after(text, through);
-    let answer = lines::after(text, count);
-    let a = sender_acks::ack_in(
-        rec,
-        fields::word(text, through),
-        (fields::word(text, count) % 256) as u8,
-        pairs,
-        &mut settled,
-    );
-    (a.answer as u64 == fields::number(text, answer))
-        & settles(text, at, a, &settled)
-        & listed(text, lines::after(text, answer), rec)
-}
-
-fn ack(text: &[u8], at: usize, rec: &mut [u8; SENDER_SIZE]) -> bool {
+// Whether an ack of the line's pairs answers as it says, settles its numbers and leaves its list.
+fn ack(fields: &mut Fields, rec: &mut [u8; SENDER_SIZE]) -> bool {
     let mut pairs = [0u8; 512];
-    let n = fields::bytes(text, at, &mut pairs);
-    ack_of(text, lines::after(text, at), rec, &pairs[..n])
+    let mut settled = [MARK; MOST_OUTSTANDING];
+    let mut want = [0u8; 1024];
+    let len = fields.bytes_or_all(&mut pairs);
+    let n = fields.bytes_or_all(&mut want);
+    let through = word(fields);
+    let count = (word(fields) % 256) as u8;
+    let said = Ack {
+        through,
+        count,
+        pairs: &pairs[..len],
+    };
+    let a = sender_acks::ack_in(rec, said, &mut settled);
+    let answer = number(fields);
+    is_told(a.map(|n| n as u64), answer, (n / 4) as u64)
+        && settled_are(&settled, &want, (n + 3) / 4)
+        && listed(fields, rec)
 }
 
-// A record of zeros, with the bytes at a place in front.
-fn start(text: &[u8], at: usize, rec: &mut [u8; SENDER_SIZE]) -> bool {
-    let mut fresh = blank();
-    fields::bytes(text, at, &mut fresh);
+// A record of zeros, with the next field's bytes in front.
+fn start(fields: &mut Fields, rec: &mut [u8; SENDER_SIZE]) -> bool {
+    let mut fresh = [0; SENDER_SIZE];
+    fields.bytes_or_all(&mut fresh);
     *rec = fresh;
     true
 }
 
-// Whether the line at a place agrees, by its first letter.
-fn line(text: &[u8], at: usize, rec: &mut [u8; SENDER_SIZE]) -> bool {
-    let kind = fields::letter(text, at);
-    let rest = lines::after(text, at);
-    if kind == b'n' {
-        return start(text, rest, rec);
+// Whether a line agrees, by its first letter.
+fn agrees(fields: &mut Fields, rec: &mut [u8; SENDER_SIZE]) -> bool {
+    match fields.next_field().first() {
+        Some(b'n') => start(fields, rec),
+        Some(b's') => send(fields, rec),
+        Some(b'r') => resend(fields, rec),
+        Some(b'a') => ack(fields, rec),
+        _ => false,
     }
-    if kind == b's' {
-        return send(text, rest, rec);
-    }
-    if kind == b'r' {
-        return resend(text, rest, rec);
-    }
-    if kind == b'a' {
-        return ack(text, rest, rec);
-    }
-    false
-}
-
-fn differs(out: &impl Print, number: u64) -> io::Result<()> {
-    println!(out; "differs: line {number}")
-}
-
-// 1 where a line agrees, else 0 and a line that says so.
-fn counted(out: &impl Print, ok: bool, number: u64) -> io::Result<u64>
-    ensures { IfOk result (λ n. n ≤ 1) }
-{
-    if ok {
-        return Ok(1);
-    }
-    differs(out, number)?;
-    Ok(0)
 }
 
 // Runs each line, and prints how many agree.
 fn run(out: &impl Print, text: &[u8]) -> io::Result<()> {
-    let mut at = 0;
-    let mut all: u64 = 0;
-    let mut same: u64 = 0;
-    let mut rec = blank();
-    while at < text.len() {
-        let ok = line(text, at, &mut rec);
-        all += 1;
-        same += counted(out, ok, all)?;
-        at = lines::after_line(text, at);
+    let mut rec = [0; SENDER_SIZE];
+    let mut tally = Tally::new();
+    for line in Lines::of(text) {
+        let mut fields = line;
+        let agrees = agrees(&mut fields, &mut rec);
+        tally.print(out, agrees)?;
     }
-    println!(out; "{all} lines, {same} agree")
+    println!(out; "{} lines, {} agree", tally.all, tally.agree)
 }
 
+// A main of its own, for the buffer's size is this list's.
 fn main(rt: HostRuntime) -> io::Result<()> {
     let mut text = [0u8; 131072];
     let n = lines::read_full(&mut rt.stdin(), &mut text)?;

@@ -5,19 +5,25 @@ use mathlib.Core.List.{List, [], ◌∷◌}
 use Prim.Native.Nat.{ℕ, ◌/◌, ◌%◌}
 use native.Mathlib.Omega.{arith}
 use lib.Dec.{eqb}
+use mir.Val.{bool_byte}
 use lib.ListN.{length, get_or}
 use borrow.Author.Tests.{eqb-true, eqb-false}
 use Rattle.wire.proofs.Parts.{part_all, part_reads}
 use Rattle.blocks.specs.Layout.{eight}
-use Rattle.blocks.specs.declared.Extent.{Extent}
-use Rattle.blocks.specs.declared.Extent.TheVariants as End
-use Rattle.blocks.specs.declared.Read.{Read}
+use Rattle.blocks.specs.Outcomes.{Extent}
+use Rattle.blocks.specs.Outcomes as End
+use Rattle.blocks.specs.Outcomes.{Read}
 use Rattle.blocks.specs.Numbers.{as_numbers, block_numbers, read_numbers}
 use Rattle.numbers_outcomes.specs.Outcomes.{outcome, end_outcome, read_outcome}
 
 -- eight numbers, each by its place
 pub one_by_one : (l : List ℕ) → length l ≡ 8 → get_or l 0 0 ∷ get_or l 1 0 ∷ get_or l 2 0 ∷ get_or l 3 0 ∷ get_or l 4 0 ∷ get_or l 5 0 ∷ get_or l 6 0 ∷ get_or l 7 0 ∷ [] ≡ l
 one_by_one l h = sym (part_reads l 0 7 0 (omega arith)) ∙ part_all l 8 (omega arith)
+
+-- a mark as a number
+pub one_if : (b : Bool) → bool_byte b ≡ cond b 1 0
+one_if true = refl
+one_if false = refl
 
 -- what is left by 2 is the mark
 mark : (n : ℕ) → n % 2 ≡ cond (eqb (n % 2) 1) 1 0

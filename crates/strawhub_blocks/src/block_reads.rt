@@ -4,10 +4,11 @@ ghost use Rattle.blocks.specs.Reading.{read_at};
 ghost use Rattle.blocks.specs.Numbers.{as_numbers, read_numbers};
 ghost use Rattle.numbers_outcomes.specs.Outcomes.{read_outcome};
 
-use blocks::{Extent, FOLLOW_ON_BYTE, FOLLOW_ON_FRAGMENT, FOLLOW_ON_ID};
+use blocks::{FOLLOW_ON_BYTE, FOLLOW_ON_FRAGMENT, FOLLOW_ON_ID, RefusedAt};
 use numbers_outcomes::Outcome;
 
 // A block's fields as they are passed: of a follow-on's first byte its number, and the mark of the last.
+#[tactic(auto, using(std::proofs::lemmas::Bool::Decides::nat_tests, crate::proofs::Numbers::follow_on_as_numbers), unfolding(blocks::specs::Numbers::as_numbers))]
 fn as_numbers(kind: u8, fields: [u64; 8]) -> [u64; 8]
     ensures { result ≡ as_numbers kind fields }
 {
@@ -19,22 +20,20 @@ fn as_numbers(kind: u8, fields: [u64; 8]) -> [u64; 8]
 }
 
 // Reads the block at a place: 0 and the place after it, its numbers in out; or the refusal and the block's place, and then out is as it was.
+// as u64: std has no From of a usize for it.
 #[unsafe(no_mangle)]
 pub extern "C" fn strawhub_block_read(payload: &[u8], at: usize, out: &mut [u64; 12]) -> Outcome
     ensures { (result ≡ read_outcome (read_at payload.now at)) × (out.new ≡ read_numbers (read_at payload.now at) out.old) }
 {
-    let read = blocks_reader::read_block(payload, at);
-    let extent = read.extent;
-    let fields = read.fields;
-    let bytes = read.bytes;
-    match extent {
-        Extent::Ends { kind, size, next } => {
-            let v = as_numbers(kind, fields);
+    match blocks_reader::read_block(payload, at) {
+        Ok(block) => {
+            let fields = block.fields;
+            let v = as_numbers(block.kind, fields);
             *out = [
-                kind as u64,
-                size as u64,
-                bytes.start as u64,
-                bytes.len as u64,
+                u64::from(block.kind),
+                u64::from(block.size),
+                block.bytes.start as u64,
+                block.bytes.len as u64,
                 v[0],
                 v[1],
                 v[2],
@@ -44,14 +43,8 @@ pub extern "C" fn strawhub_block_read(payload: &[u8], at: usize, out: &mut [u64;
                 v[6],
                 v[7],
             ];
-            Outcome {
-                number: 0,
-                value: next as u64,
-            }
+            Outcome::done(block.next)
         }
-        Extent::Refused { number, place } => Outcome {
-            number: number as u64,
-            value: place as u64,
-        },
+        Err(RefusedAt { refusal, place }) => Outcome::refused(refusal, place),
     }
 }

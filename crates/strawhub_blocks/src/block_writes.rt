@@ -1,5 +1,5 @@
 // Writing a block by numbers.
-ghost use Rattle.std.specs.Prelude.{◌≡◌, cond, ◌≤◌, min, length};
+ghost use Rattle.std.specs.Prelude.{◌≡◌, length};
 ghost use Rattle.blocks.specs.Numbers.{as_fields, writing_by, room_by};
 ghost use Rattle.numbers_outcomes.specs.Outcomes.{write_outcome};
 
@@ -13,24 +13,8 @@ const LAST: usize = 1;
 
 const ID: usize = 2;
 
-fn bit(x: bool) -> u64
-    ensures { (result ≡ cond x 1 0) × (result ≤ 1) }
-{
-    if x {
-        return 1;
-    }
-    0
-}
-
-// A follow-on's number; one above 127 is taken as 128, which has no byte.
-fn at_most_128(number: u64) -> u64
-    ensures { (result ≡ min number 128) × (result ≤ 128) }
-{
-    if number < 128 {
-        return number;
-    }
-    128
-}
+// A follow-on's number above 127 is taken as this, which has no byte.
+const MOST: u64 = 128;
 
 // The fields of the eight numbers that are passed.
 fn as_fields(kind: u8, v: [u64; 8]) -> [u64; 8]
@@ -38,7 +22,7 @@ fn as_fields(kind: u8, v: [u64; 8]) -> [u64; 8]
 {
     if kind == FOLLOW_ON_FRAGMENT {
         return [
-            at_most_128(v[NUMBER]) * 2 + bit(v[LAST] != 0),
+            v[NUMBER].min(MOST) * 2 + u64::from(v[LAST] != 0),
             v[ID],
             0,
             0,
@@ -62,7 +46,6 @@ pub extern "C" fn strawhub_block_write(
     ensures { (result ≡ write_outcome (writing_by kind fields.now bytes.now (length room.old))) × (room.new ≡ room_by kind fields.now bytes.now room.old) }
 {
     let v = *fields;
-    let f = as_fields(kind, v);
-    let w = blocks_writer::write_block(kind, f, bytes, room);
-    outcome_of(w)
+    let answer = blocks_writer::write_block(kind, as_fields(kind, v), bytes, room);
+    outcome_of(answer)
 }

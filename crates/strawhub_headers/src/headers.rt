@@ -16,8 +16,13 @@ pub extern "C" fn strawhub_header_read(
 ) -> u32
     ensures { (result ≡ answer_number (header_answer k1.now k2.now pkt.old)) × (pkt.new ≡ packet_after_read k1.now k2.now pkt.old) × (out.new ≡ answer_numbers (header_answer k1.now k2.now pkt.old) out.old) }
 {
-    let answer = header_packets::read(pkt, k1, k2);
-    numbers_headers::put_numbers(answer, out)
+    match header_packets::read(pkt, k1, k2) {
+        Ok(header) => {
+            *out = numbers_headers::kind_numbers(header);
+            0
+        }
+        Err(refusal) => u32::from(refusal.number()),
+    }
 }
 
 // Writes and masks a header by numbers; the answer is 0 or the refusal, and refused the packet is as it came. Any flag but 0 asks for an immediate ack.
@@ -51,5 +56,5 @@ pub extern "C" fn strawhub_header_write(
         count,
         immediate: immediate != 0,
     };
-    header_packets::write(f, pkt, k1, k2)
+    u32::from(refusals::number_of(header_packets::write(f, pkt, k1, k2)))
 }

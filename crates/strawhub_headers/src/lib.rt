@@ -16,6 +16,5 @@ pub extern "C" fn strawhub_keystream(
 )
     ensures { out.new ≡ Chacha.block key.now counter nonce.now }
 {
-    let stream = keystream::block(key, counter, nonce);
-    *out = stream;
+    *out = keystream::block(key, counter, nonce);
 }

@@ -5,27 +5,19 @@ ghost use Rattle.std.specs.Prelude.{◌≡◌, length};
 ghost use Rattle.wire.specs.Parts.{splice};
 ghost use Rattle.sender.specs.Sender.{send, resend, ack};
 ghost use Rattle.sender.specs.Recorded.{lent_answer, new_sender_record, answer_there, given_there, sender_after, settled_there, outstanding_there, packet_numbers};
+ghost use Rattle.sender.specs.Outcomes.{told_as};
 ghost use Rattle.numbers_outcomes.specs.Outcomes.{outcome};
 
-use numbers_outcomes::Outcome;
-use sender::{Acked, Given, SENDER_SIZE};
+use acks_expand::Ack;
+use numbers_outcomes::{Outcome, outcome_of};
+use refusals::Refusal;
+use sender::SENDER_SIZE;
 
-fn given_outcome(g: Given) -> Outcome
-    ensures { result ≡ outcome g.answer g.number }
+// What is told of an answer, in the words of the sender's definitions.
+fn told(answer: Result<usize, Refusal>) -> Outcome
+    ensures { result ≡ outcome (told_as answer).answer (told_as answer).value }
 {
-    Outcome {
-        number: g.answer as u64,
-        value: g.number as u64,
-    }
-}
-
-fn acked_outcome(a: Acked) -> Outcome
-    ensures { result ≡ outcome a.answer a.count }
-{
-    Outcome {
-        number: a.answer as u64,
-        value: a.count as u64,
-    }
+    outcome_of(answer)
 }
 
 // A sender that has given out nothing. 59 where the record is short, and then it stays.
@@ -34,10 +26,9 @@ pub extern "C" fn strawhub_sender_new(sender: &mut [u8]) -> u32
     ensures { (result ≡ lent_answer sender.old) × (sender.new ≡ new_sender_record sender.old) }
 {
     if sender.len() < SENDER_SIZE {
-        return 59;
+        return u32::from(Refusal::LentShort.number());
     }
-    let zero = [0u8; SENDER_SIZE];
-    wire::copy_to(sender, 0, &zero);
+    sender[..SENDER_SIZE].fill(0);
     0
 }
 
@@ -46,7 +37,8 @@ pub extern "C" fn strawhub_sender_new(sender: &mut [u8]) -> u32
 pub extern "C" fn strawhub_sender_send(sender: &mut [u8], second: u64) -> Outcome
     ensures { (result ≡ outcome (answer_there sender.old (send second)) (given_there sender.old (send second))) × (sender.new ≡ sender_after sender.old (send second)) }
 {
-    given_outcome(sender_list::send_in(sender, second))
+    let answer = sender_list::send_in(sender, second);
+    told(answer.map(|number| number as usize))
 }
 
 // The packet of a number is sent again: 0 and its new number; or 59, 73, 71, and then the sender stays.
@@ -54,7 +46,8 @@ pub extern "C" fn strawhub_sender_send(sender: &mut [u8], second: u64) -> Outcom
 pub extern "C" fn strawhub_sender_resend(sender: &mut [u8], number: u32, second: u64) -> Outcome
     ensures { (result ≡ outcome (answer_there sender.old (resend number second)) (given_there sender.old (resend number second))) × (sender.new ≡ sender_after sender.old (resend number second)) }
 {
-    given_outcome(sender_list::resend_in(sender, number, second))
+    let answer = sender_list::resend_in(sender, number, second);
+    told(answer.map(|number| number as usize))
 }
 
 // An Ack block came: 0 and how many packets it settles, their numbers in front of settled, the oldest first; or 59, 44, 72, and then both stay.
@@ -68,7 +61,12 @@ pub extern "C" fn strawhub_sender_ack(
 ) -> Outcome
     ensures { (result ≡ outcome (answer_there sender.old (ack through count pairs.now)) (length (settled_there sender.old (ack through count pairs.now)))) × (sender.new ≡ sender_after sender.old (ack through count pairs.now)) × (settled.new ≡ splice settled.old 0 (settled_there sender.old (ack through count pairs.now))) }
 {
-    acked_outcome(sender_acks::ack_in(sender, through, count, pairs, settled))
+    let said = Ack {
+        through,
+        count,
+        pairs,
+    };
+    told(sender_acks::ack_in(sender, said, settled))
 }
 
 // The k-th outstanding packet, the oldest first: its number, second and resends in out, which stays where there are not so many. 0 and how many there are; or 59, and then out stays.
@@ -80,15 +78,12 @@ pub extern "C" fn strawhub_sender_outstanding(
 ) -> Outcome
     ensures { (result ≡ outcome (lent_answer sender.now) (outstanding_there sender.now)) × (out.new ≡ packet_numbers sender.now k out.old) }
 {
-    if sender.len() < SENDER_SIZE {
-        return Outcome {
-            number: 59,
-            value: 0,
-        };
+    if let Some(packet) = sender_list::packet_in(sender, k) {
+        *out = [
+            u64::from(packet.number),
+            packet.second,
+            u64::from(packet.resends),
+        ];
     }
-    let count = sender_list::packet_in(sender, k, out);
-    Outcome {
-        number: 0,
-        value: count as u64,
-    }
+    told(sender_list::outstanding_in(sender))
 }

@@ -1,32 +1,63 @@
 // What a block delivers, by numbers.
 ghost use Rattle.std.specs.Prelude.{◌≡◌};
 ghost use Rattle.numbers_outcomes.specs.Deliveries.{delivery_outcome, delivery_numbers, told_with, deliver_call};
+ghost use Rattle.messages.specs.Answers.{received_as};
 ghost use Rattle.reassembly.specs.Calls.{lent};
 
-use messages::Received;
+use blocks::RefusedAt;
+use messages::Delivered;
 use numbers_outcomes::Outcome;
 
-// What was received put into the lent numbers; refused, they stay.
-fn tell(r: Received, told: &mut [u64; 6]) -> Outcome
-    ensures { (result ≡ delivery_outcome r) × (told.new ≡ delivery_numbers r told.old) }
+// What was delivered put into the lent numbers; refused, they stay.
+fn tell(answer: Result<Delivered, RefusedAt>, told: &mut [u64; 6]) -> Outcome
+    ensures { (result ≡ delivery_outcome (received_as answer)) × (told.new ≡ delivery_numbers (received_as answer) told.old) }
 {
-    if (r.number != 0) & (r.number != 60) {
-        return Outcome {
-            number: r.number as u64,
-            value: r.start as u64,
-        };
-    }
-    *told = [
-        r.from as u64,
-        r.kind as u64,
-        r.id as u64,
-        r.expires as u64,
-        r.start as u64,
-        r.length as u64,
-    ];
-    Outcome {
-        number: r.number as u64,
-        value: 0,
+    match answer {
+        Ok(Delivered::Nothing) => {
+            *told = [0; 6];
+            Outcome::done(0)
+        }
+        Ok(
+            Delivered::Whole {
+                kind,
+                id,
+                expires,
+                bytes,
+            },
+        ) => {
+            let (start, length) = (bytes.start as u64, bytes.len as u64);
+            *told = [
+                1,
+                u64::from(kind),
+                u64::from(id),
+                u64::from(expires),
+                start,
+                length,
+            ];
+            Outcome::done(0)
+        }
+        Ok(
+            Delivered::Rebuilt {
+                kind,
+                id,
+                expires,
+                length,
+            },
+        ) => {
+            *told = [
+                2,
+                u64::from(kind),
+                u64::from(id),
+                u64::from(expires),
+                0,
+                length as u64,
+            ];
+            Outcome {
+                number: 60,
+                value: 0,
+            }
+        }
+        Err(RefusedAt { refusal, place }) => Outcome::refused(refusal, place),
     }
 }
 
@@ -44,6 +75,6 @@ pub extern "C" fn strawhub_block_deliver(
 ) -> Outcome
     ensures { told_with result told.new (lent rec.new room.new out.new) ≡ deliver_call payload.now at (lent rec.old room.old out.old) neighbour second told.old }
 {
-    let r = messages::receive(payload, at, rec, room, out, neighbour, second);
-    tell(r, told)
+    let answer = messages::receive(payload, at, rec, room, out, neighbour, second);
+    tell(answer, told)
 }

@@ -10,7 +10,7 @@ use reassembly::Reply;
 pub extern "C" fn strawhub_store_new(rec: &mut [u8]) -> u8
     ensures { (result ≡ renewal rec.old) × (rec.new ≡ renewed rec.old) }
 {
-    reassembly_store::new(rec)
+    refusals::number_of(reassembly_store::new(rec))
 }
 
 // A first piece of a neighbour arrives: 0 kept, 60 with the message at the start of out and its head and length in the reply, or a refusal, and then nothing changes.
@@ -28,7 +28,10 @@ pub extern "C" fn strawhub_store_first(
 ) -> Reply
     ensures { after result (lent rec.new room.new out.new) ≡ first_call (lent rec.old room.old out.old) neighbour (record { id = id; number = 0; last = false; kind = kind; expires = expires }) second bytes.now }
 {
-    reassembly_store::first_fragment(rec, room, out, neighbour, id, kind, expires, second, bytes)
+    let answer = reassembly_store::first_fragment(
+        rec, room, out, neighbour, id, kind, expires, second, bytes,
+    );
+    Reply::from(answer)
 }
 
 // A follow-on piece arrives, in the same way. Any last but 0 marks the last piece.
@@ -46,7 +49,7 @@ pub extern "C" fn strawhub_store_follow_on(
 ) -> Reply
     ensures { after result (lent rec.new room.new out.new) ≡ follow_on_call (lent rec.old room.old out.old) neighbour (record { id = id; number = number; last = not (eqb last 0); kind = 0; expires = 0 }) second bytes.now }
 {
-    reassembly_store::follow_on_fragment(
+    let answer = reassembly_store::follow_on_fragment(
         rec,
         room,
         out,
@@ -56,7 +59,8 @@ pub extern "C" fn strawhub_store_follow_on(
         last != 0,
         second,
         bytes,
-    )
+    );
+    Reply::from(answer)
 }
 
 // Drops exactly the messages that were opened 30 seconds ago or more, whoever sent them. Answers 0.
@@ -64,5 +68,6 @@ pub extern "C" fn strawhub_store_follow_on(
 pub extern "C" fn strawhub_store_sweep(rec: &mut [u8], second: u64) -> u8
     ensures { (result ≡ 0) × (rec.new ≡ swept second rec.old) }
 {
-    reassembly_store::sweep(rec, second)
+    reassembly_store::sweep(rec, second);
+    0
 }

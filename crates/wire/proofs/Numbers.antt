@@ -155,6 +155,10 @@ pub big_at_part : (m : ℕ) (l : List ℕ) (o n p : ℕ) → p + m ≤ n → big
 unfolding big_at
 big_at_part m l o n p h = ap big (part_part l o n p m h)
 
+pub little_at_part : (m : ℕ) (l : List ℕ) (o n p : ℕ) → p + m ≤ n → little_at m (part l o n) p ≡ little_at m l (o + p)
+unfolding little_at
+little_at_part m l o n p h = ap little (part_part l o n p m h)
+
 -- the high bytes of a number do not reach its low ones
 pub little_mod : (n x : ℕ) → little_bytes n (x % 256 ^ n) ≡ little_bytes n x
 unfolding little_bytes

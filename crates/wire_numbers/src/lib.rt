@@ -1,128 +1,150 @@
-// Numbers at a place of a slice, in two, four or eight bytes: read, as nom's `be_u16` and its like, and put, as `put_u16` of bytes and its like.
+// Numbers at a place of a slice, in two, four or eight bytes, the high byte first (be) or the low one (le): read and put.
 #![tactic(auto)]
 
-ghost use Rattle.std.specs.Prelude.{◌≡◌, ◌+◌, ◌<◌, ◌≤◌, length};
+ghost use Rattle.std.specs.Prelude.{◌≡◌, ℕ, ◌+◌, ◌*◌, ◌/◌, ◌%◌, ◌^◌, ◌<◌, ◌≤◌, length};
 ghost use Rattle.wire.specs.Parts.{splice};
 ghost use Rattle.wire.specs.Numbers.{little_at, big_at, little_bytes, big_bytes};
 
-fn wide16(x: u8) -> u16
-    ensures { (result ≡ x) × (result < 256) }
-{
-    x as u16
+// A number of so many bytes: what it is, and its bytes one by one.
+pub trait Word: Copy {
+    const WIDTH: usize;
+
+    ghost WIDTH: { ℕ };
+
+    ghost value: { Self → ℕ };
+
+    fn zero() -> Self
+        ensures { value result ≡ 0 };
+
+    // One byte more, below the others.
+    fn push(self, byte: u8) -> Self
+        requires { value self * 256 + byte < 256 ^ WIDTH }
+        ensures { value result ≡ value self * 256 + byte };
+
+    // Its low byte. A number that is proved to fit is turned with as: try_from would answer a Result that cannot fail.
+    fn low(self) -> u8
+        ensures { result ≡ value self % 256 };
+
+    // What stands above the low byte.
+    fn above(self) -> Self
+        ensures { value result ≡ value self / 256 };
 }
 
-fn wide32(x: u8) -> u32
-    ensures { (result ≡ x) × (result < 256) }
-{
-    x as u32
+// Three impls by hand: the gate refuses an impl that a macro writes.
+impl Word for u16 {
+    const WIDTH: usize = 2;
+
+    ghost WIDTH = { 2 };
+
+    ghost value = { λ x. x };
+
+    fn zero() -> u16 {
+        0
+    }
+
+    fn push(self, byte: u8) -> u16 {
+        self * 256 + u16::from(byte)
+    }
+
+    fn low(self) -> u8 {
+        (self % 256) as u8
+    }
+
+    fn above(self) -> u16 {
+        self / 256
+    }
 }
 
-fn wide64(x: u32) -> u64
-    ensures { (result ≡ x) × (result < 4294967296) }
-{
-    x as u64
+impl Word for u32 {
+    const WIDTH: usize = 4;
+
+    ghost WIDTH = { 4 };
+
+    ghost value = { λ x. x };
+
+    fn zero() -> u32 {
+        0
+    }
+
+    fn push(self, byte: u8) -> u32 {
+        self * 256 + u32::from(byte)
+    }
+
+    fn low(self) -> u8 {
+        (self % 256) as u8
+    }
+
+    fn above(self) -> u32 {
+        self / 256
+    }
+}
+
+impl Word for u64 {
+    const WIDTH: usize = 8;
+
+    ghost WIDTH = { 8 };
+
+    ghost value = { λ x. x };
+
+    fn zero() -> u64 {
+        0
+    }
+
+    fn push(self, byte: u8) -> u64 {
+        self * 256 + u64::from(byte)
+    }
+
+    fn low(self) -> u8 {
+        (self % 256) as u8
+    }
+
+    fn above(self) -> u64 {
+        self / 256
+    }
 }
 
 // The number at a place, its high byte first.
-pub fn be_u16(b: &[u8], at: usize) -> u16
-    requires { at + 2 ≤ length b.now }
-    ensures { result ≡ big_at 2 b.now at }
+// Slice and place: a sub-slice would be cut at each call.
+pub fn be<W: Word>(b: &[u8], at: usize) -> W
+    requires { at + W.WIDTH ≤ length b.now }
+    ensures { W.value result ≡ big_at W.WIDTH b.now at }
 {
-    wide16(b[at]) * 256 + wide16(b[at + 1])
-}
-
-pub fn be_u32(b: &[u8], at: usize) -> u32
-    requires { at + 4 ≤ length b.now }
-    ensures { result ≡ big_at 4 b.now at }
-{
-    wide32(b[at]) * 16777216
-        + wide32(b[at + 1]) * 65536
-        + wide32(b[at + 2]) * 256
-        + wide32(b[at + 3])
-}
-
-pub fn be_u64(b: &[u8], at: usize) -> u64
-    requires { at + 8 ≤ length b.now }
-    ensures { result ≡ big_at 8 b.now at }
-{
-    wide64(be_u32(b, at)) * 4294967296 + wide64(be_u32(b, at + 4))
+    let mut x = W::zero();
+    for byte in &b[at..at + W::WIDTH] {
+        x = x.push(*byte);
+    }
+    x
 }
 
 // The number at a place, its low byte first.
-pub fn le_u16(b: &[u8], at: usize) -> u16
-    requires { at + 2 ≤ length b.now }
-    ensures { result ≡ little_at 2 b.now at }
+pub fn le<W: Word>(b: &[u8], at: usize) -> W
+    requires { at + W.WIDTH ≤ length b.now }
+    ensures { W.value result ≡ little_at W.WIDTH b.now at }
 {
-    wide16(b[at]) + wide16(b[at + 1]) * 256
-}
-
-pub fn le_u32(b: &[u8], at: usize) -> u32
-    requires { at + 4 ≤ length b.now }
-    ensures { result ≡ little_at 4 b.now at }
-{
-    wide32(b[at])
-        + wide32(b[at + 1]) * 256
-        + wide32(b[at + 2]) * 65536
-        + wide32(b[at + 3]) * 16777216
-}
-
-pub fn le_u64(b: &[u8], at: usize) -> u64
-    requires { at + 8 ≤ length b.now }
-    ensures { result ≡ little_at 8 b.now at }
-{
-    wide64(le_u32(b, at)) + wide64(le_u32(b, at + 4)) * 4294967296
-}
-
-// A number put at a place, its high byte first; every other byte stays.
-pub fn put_u16(b: &mut [u8], at: usize, x: u16)
-    requires { at + 2 ≤ length b.old }
-    ensures { b.new ≡ splice b.old at (big_bytes 2 x) }
-{
-    b[at] = (x / 256) as u8;
-    b[at + 1] = (x % 256) as u8;
-}
-
-pub fn put_u32(b: &mut [u8], at: usize, x: u32)
-    requires { at + 4 ≤ length b.old }
-    ensures { b.new ≡ splice b.old at (big_bytes 4 x) }
-{
-    b[at] = (x / 16777216) as u8;
-    b[at + 1] = (x / 65536 % 256) as u8;
-    b[at + 2] = (x / 256 % 256) as u8;
-    b[at + 3] = (x % 256) as u8;
-}
-
-pub fn put_u64(b: &mut [u8], at: usize, x: u64)
-    requires { at + 8 ≤ length b.old }
-    ensures { b.new ≡ splice b.old at (big_bytes 8 x) }
-{
-    put_u32(b, at, (x / 4294967296) as u32);
-    put_u32(b, at + 4, (x % 4294967296) as u32);
+    let mut x = W::zero();
+    for byte in b[at..at + W::WIDTH].iter().rev() {
+        x = x.push(*byte);
+    }
+    x
 }
 
 // A number put at a place, its low byte first; every other byte stays.
-pub fn put_u16_le(b: &mut [u8], at: usize, x: u16)
-    requires { at + 2 ≤ length b.old }
-    ensures { b.new ≡ splice b.old at (little_bytes 2 x) }
+pub fn put_le<W: Word>(b: &mut [u8], at: usize, x: W)
+    requires { at + W.WIDTH ≤ length b.old }
+    ensures { b.new ≡ splice b.old at (little_bytes W.WIDTH (W.value x)) }
 {
-    b[at] = (x % 256) as u8;
-    b[at + 1] = (x / 256) as u8;
+    let mut rest = x;
+    for byte in b[at..at + W::WIDTH].iter_mut() {
+        *byte = rest.low();
+        rest = rest.above();
+    }
 }
 
-pub fn put_u32_le(b: &mut [u8], at: usize, x: u32)
-    requires { at + 4 ≤ length b.old }
-    ensures { b.new ≡ splice b.old at (little_bytes 4 x) }
+// A number put at a place, its high byte first; every other byte stays.
+pub fn put_be<W: Word>(b: &mut [u8], at: usize, x: W)
+    requires { at + W.WIDTH ≤ length b.old }
+    ensures { b.new ≡ splice b.old at (big_bytes W.WIDTH (W.value x)) }
 {
-    b[at] = (x % 256) as u8;
-    b[at + 1] = (x / 256 % 256) as u8;
-    b[at + 2] = (x / 65536 % 256) as u8;
-    b[at + 3] = (x / 16777216) as u8;
-}
-
-pub fn put_u64_le(b: &mut [u8], at: usize, x: u64)
-    requires { at + 8 ≤ length b.old }
-    ensures { b.new ≡ splice b.old at (little_bytes 8 x) }
-{
-    put_u32_le(b, at, (x % 4294967296) as u32);
-    put_u32_le(b, at + 4, (x / 4294967296) as u32);
+    put_le(b, at, x);
+    b[at..at + W::WIDTH].reverse();
 }

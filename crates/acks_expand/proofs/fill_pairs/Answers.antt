@@ -1,45 +1,41 @@
-use Prim.Native.Nat.{◌+◌}
-use mathlib.Core.Path.{◌≡◌}
-use lib.ListN.{get_or}
-use native.Mathlib.Omega.{arith}
-use Rattle.acks.proofs.Filling.{wrote_start, wrote_step, wrote_end, spends, room_left_lem}
+use Rattle.std.proofs.Common.{arith}
+use Rattle.acks.proofs.Filling.{wrote_start, wrote_end}
+use Rattle.acks_expand.proofs.Written.{pair_spends, pair_fits, pair_written}
 use Rattle.acks_expand.proofs.fill_pairs.Goals as goal
 
-pub loop-i-init : goal.loop-i-init
-loop-i-init c =
+pub loop-pair-init : goal.loop-pair-init
+loop-pair-init c =
     let a = c.args in
     wrote_start a.pairs.now a.list.now a.place a.top c.requires.1 c.requires.0
 
 pub overflow_sub-above : goal.overflow_sub-above
-overflow_sub-above c = omega (arith, spends _ _ _ _ c.requires.1 _ _ _ _ c.loop-i.invariant (omega arith))
+overflow_sub-above c =
+    let s = c.as_chunks.ensures in
+    let e = pair_spends _ _ _ _ c.requires.1 _ _ _ _ c.loop-pair.invariant _ s.front (omega (arith, s.front_len)) _ _ c.from-nack.ensures c.from-ack.ensures in
+    omega (arith, e)
 
 pub fall-requires : goal.fall-requires
-fall-requires c = (
-  omega (arith, room_left_lem _ _ _ _ c.requires.1 _ _ _ _ c.loop-i.invariant (omega arith)),
-  omega (arith, spends _ _ _ _ c.requires.1 _ _ _ _ c.loop-i.invariant (omega arith)),
-)
+fall-requires c =
+    let s = c.as_chunks.ensures in
+    let e = pair_spends _ _ _ _ c.requires.1 _ _ _ _ c.loop-pair.invariant _ s.front (omega (arith, s.front_len)) _ _ c.from-nack.ensures c.from-ack.ensures in
+    (pair_fits _ _ _ _ c.requires.1 _ _ _ _ c.loop-pair.invariant _ s.front (omega (arith, s.front_len)) _ _ c.from-nack.ensures c.from-ack.ensures, omega (arith, e))
 
-pub overflow_sub-above-in-loop-i : goal.overflow_sub-above-in-loop-i
-overflow_sub-above-in-loop-i c = omega (arith, spends _ _ _ _ c.requires.1 _ _ _ _ c.loop-i.invariant (omega arith))
+pub overflow_sub-above-in-loop-pair : goal.overflow_sub-above-in-loop-pair
+overflow_sub-above-in-loop-pair c =
+    let s = c.as_chunks.ensures in
+    let e = pair_spends _ _ _ _ c.requires.1 _ _ _ _ c.loop-pair.invariant _ s.front (omega (arith, s.front_len)) _ _ c.from-nack.ensures c.from-ack.ensures in
+    omega (arith, e)
 
-pub overflow_sub-above-in-loop-i-2 : goal.overflow_sub-above-in-loop-i-2
-overflow_sub-above-in-loop-i-2 c = omega (arith, spends _ _ _ _ c.requires.1 _ _ _ _ c.loop-i.invariant (omega arith))
+pub overflow_sub-above-in-loop-pair-2 : goal.overflow_sub-above-in-loop-pair-2
+overflow_sub-above-in-loop-pair-2 c =
+    let s = c.as_chunks.ensures in
+    let e = pair_spends _ _ _ _ c.requires.1 _ _ _ _ c.loop-pair.invariant _ s.front (omega (arith, s.front_len)) _ _ c.from-nack.ensures c.from-ack.ensures in
+    omega (arith, e)
 
-pub overflow_add-at : goal.overflow_add-at
-overflow_add-at c =
-    omega (arith, room_left_lem _ _ _ _ c.requires.1 _ _ _ _ c.loop-i.invariant (omega arith), c.loop-i.invariant.same)
-
-pub loop-i-preserved : goal.loop-i-preserved
-loop-i-preserved c =
-    let a = c.args in
-    let i = c.loop-i in
-    let x : c.byte-nack.result ≡ get_or a.pairs.now i.i 0 = c.byte-nack.ensures.0 in
-    let y : c.byte-ack.result ≡ get_or a.pairs.now (i.i + 1) 0 = c.byte-ack.ensures.0 in
-    rw (c.fall.ensures, x, y)
-    (wrote_step a.pairs.now a.list.now a.place a.top c.requires.1 i.list i.at i.above i.i i.invariant (omega arith))
+pub loop-pair-preserved : goal.loop-pair-preserved
+loop-pair-preserved c =
+    let s = c.as_chunks.ensures in
+    pair_written _ _ _ _ c.requires.1 _ _ _ _ c.loop-pair.invariant _ s.front (omega (arith, s.front_len)) _ _ c.from-nack.ensures c.from-ack.ensures _ c.fall.ensures
 
 pub returns : goal.returns
-returns c =
-    let a = c.args in
-    let i = c.loop-i in
-    wrote_end a.pairs.now a.list.now a.place a.top c.requires.1 i.list i.at i.above i.i i.invariant (omega arith)
+returns c = wrote_end _ _ _ _ c.requires.1 _ _ _ _ c.loop-pair.invariant (omega (arith, c.as_chunks.ensures.front_len))

@@ -1,22 +1,21 @@
-use native.Mathlib.Omega.{arith}
-use mathlib.Core.Path.{ap₂, ◌∙◌}
+use mathlib.Core.Path.{ap, ap₂, ◌∙◌}
 use mathlib.Core.List.{List}
 use Prim.Native.Nat.{ℕ}
-use Rattle.wire.proofs.Parts.{part_is}
+use Rattle.std.proofs.lemmas.Result.{err_from_is_err_and}
 use Rattle.acks.specs.Tracking.{mark}
-use Rattle.acks.specs.Reporting.{report_of, ack_info}
-use Rattle.acks.specs.Recorded.{tracker_at, report_there}
-use Rattle.acks.proofs.Recording.{is_short_lem, is_long}
+use Rattle.acks.specs.Reporting.{refused_report, report_of, ack_info}
+use Rattle.acks.specs.Recorded.{report_there}
 use Rattle.acks_reports.proofs.report_in.Goals as goal
 
-pub returns-then-tracker-lt-TRACKER_SIZE : goal.returns-then-tracker-lt-TRACKER_SIZE
+pub returns-in_err-lent : goal.returns-in_err-lent
 unfolding report_there
-returns-then-tracker-lt-TRACKER_SIZE c = rw (is_short_lem c.args.tracker.now (omega arith), c.refused.ensures)
+returns-in_err-lent c =
+    let p = err_from_is_err_and c.from_residual.result c.from_residual.ensures.1 in
+    let e = c.in_err-lent.ensures in
+    rw (p.1, p.2, e.0) (ap refused_report e.1)
 
 pub returns : goal.returns
-unfolding report_there ack_info tracker_at
+unfolding report_there ack_info
 returns c =
-    let a = c.args in
-    rw (is_long a.tracker.now (omega arith))
-    (c.report_of.ensures
-    ∙ ap₂ (λ (t : ℕ) (m : List ℕ). report_of t (mark m)) c.le_u32-top.ensures (part_is a.tracker.now 4 255))
+    let e = c.in_ok-lent.ensures in
+    rw e.0 (c.report_of.ensures ∙ ap₂ (λ (t : ℕ) (m : List ℕ). report_of t (mark m)) e.1 e.2)

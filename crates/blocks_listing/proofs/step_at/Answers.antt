@@ -1,21 +1,29 @@
-use mathlib.Core.Path.{◌≡◌, ap, ◌∙◌}
+use mathlib.Core.Path.{◌∙◌}
 use native.Mathlib.Omega.{arith}
-use Rattle.blocks.specs.Extent.{kind_at, size_at}
-use Rattle.blocks.specs.Sound.{body_length}
-use Rattle.blocks_listing.proofs.Walk.{no_step, step_over_lem}
+use Rattle.blocks.proofs.Ends.{head_says, no_head}
+use Rattle.blocks_listing.proofs.Walk.{no_step, step_past, step_over_lem}
 use Rattle.blocks_listing.proofs.step_at.Goals as goal
 
-pub returns-then-payload-lt3 : goal.returns-then-payload-lt3
-returns-then-payload-lt3 c = let a = c.args in c.stays_at.ensures ∙ no_step a.payload.now a.at (omega arith)
+pub returns-in_default : goal.returns-in_default
+returns-in_default c = let a = c.args in let n = no_head a.payload.now a.at c.in_default.ensures in c.stays_at.ensures ∙ no_step a.payload.now a.at (omega (arith, n))
 
-pub returns-then-payload-at : goal.returns-then-payload-at
-returns-then-payload-at c = let a = c.args in c.stays_at-then-payload-at.ensures ∙ no_step a.payload.now a.at (omega arith)
+pub overflow_add-body : goal.overflow_add-body
+overflow_add-body c = let a = c.args in omega (arith, (head_says a.payload.now a.at c.in-Some.head c.in-Some.ensures).there)
 
-pub returns-then-payload-at-2 : goal.returns-then-payload-at-2
-returns-then-payload-at-2 c = let a = c.args in let n : c.body_length-need.result ≡ body_length (kind_at a.payload.now a.at) (size_at a.payload.now a.at) = c.body_length-need.ensures.0 ∙ ap (body_length (kind_at a.payload.now a.at)) c.be_u16-size.ensures in c.stays_at-then-payload-at-2.ensures ∙ no_step a.payload.now a.at (omega (arith, n))
+pub overflow_sub-payload : goal.overflow_sub-payload
+overflow_sub-payload c = let a = c.args in (head_says a.payload.now a.at c.in-Some.head c.in-Some.ensures).there
 
-pub overflow_add-result-2 : goal.overflow_add-result-2
-overflow_add-result-2 c = omega (arith, c.if-payload-at-2.false)
+pub returns-then-payload-body : goal.returns-then-payload-body
+returns-then-payload-body c =
+    let a = c.args in
+    let h = head_says a.payload.now a.at c.in-Some.head c.in-Some.ensures in
+    c.stays_at-then-payload-body.ensures ∙ step_past a.payload.now a.at c.in-Some.head h c.body_length-need.ensures.0 (omega (arith, h.there, c.if-payload-body.true))
+
+pub overflow_add-result : goal.overflow_add-result
+overflow_add-result c = let a = c.args in omega (arith, c.if-payload-body.false, (head_says a.payload.now a.at c.in-Some.head c.in-Some.ensures).there)
 
 pub returns : goal.returns
-returns c = let a = c.args in step_over_lem a.payload.now a.at c.be_u16-size.result c.body_length-need.result c.be_u16-size.ensures (c.body_length-need.ensures.0 ∙ ap (body_length (kind_at a.payload.now a.at)) c.be_u16-size.ensures) (omega arith)
+returns c =
+    let a = c.args in
+    let h = head_says a.payload.now a.at c.in-Some.head c.in-Some.ensures in
+    step_over_lem a.payload.now a.at c.in-Some.head h c.body_length-need.ensures.0 (omega (arith, h.there, c.if-payload-body.false))

@@ -17,21 +17,21 @@ pub overflow_cast-x : goal.overflow_cast-x
 unfolding width_of
 overflow_cast-x c = search rules
 
-pub put_u16-requires : goal.put_u16-requires
+pub put_be-requires : goal.put_be-requires
 unfolding width_of
-put_u16-requires c = omega (arith, ap width_of c.in-2.is)
+put_be-requires c = omega (arith, ap width_of c.in-2.is)
 
 pub overflow_cast-x-in-4 : goal.overflow_cast-x-in-4
 unfolding width_of
 overflow_cast-x-in-4 c = search rules
 
-pub put_u32-requires : goal.put_u32-requires
+pub put_be-requires-in-4 : goal.put_be-requires-in-4
 unfolding width_of
-put_u32-requires c = omega (arith, ap width_of c.in-4.is)
+put_be-requires-in-4 c = omega (arith, ap width_of c.in-4.is)
 
-pub put_u64-requires : goal.put_u64-requires
+pub put_be-requires-in_default : goal.put_be-requires-in_default
 unfolding width_of
-put_u64-requires c = omega (arith, width_else c.in_default.in_default-own.rest)
+put_be-requires-in_default c = omega (arith, width_else c.in_default.in_default-own.rest)
 
 pub shape_of-room-in-1 : goal.shape_of-room-in-1
 unfolding width_of
@@ -47,7 +47,7 @@ shape_of-room-in-2 c = search rules
 
 pub returns-in-2 : goal.returns-in-2
 unfolding width_of
-returns-in-2 c = rw (ap width_of c.in-2.is) (cut _ _ _ 2 c.put_u16.ensures)
+returns-in-2 c = rw (ap width_of c.in-2.is) (cut _ _ _ 2 c.put_be.ensures)
 
 pub shape_of-room-in-4 : goal.shape_of-room-in-4
 unfolding width_of
@@ -55,7 +55,7 @@ shape_of-room-in-4 c = search rules
 
 pub returns-in-4 : goal.returns-in-4
 unfolding width_of
-returns-in-4 c = rw (ap width_of c.in-4.is) (cut _ _ _ 4 c.put_u32.ensures)
+returns-in-4 c = rw (ap width_of c.in-4.is) (cut _ _ _ 4 c.put_be-in-4.ensures)
 
 pub shape_of-room-in_default : goal.shape_of-room-in_default
 unfolding width_of
@@ -63,4 +63,4 @@ shape_of-room-in_default c = search rules
 
 pub returns-in_default : goal.returns-in_default
 unfolding width_of
-returns-in_default c = rw (width_else c.in_default.in_default-own.rest) c.put_u64.ensures
+returns-in_default c = rw (width_else c.in_default.in_default-own.rest) c.put_be-in_default.ensures

@@ -21,4 +21,4 @@ right k = eqb (shown k (row k)) (floor_of k)
 
 pub returns : goal.returns
 unfolding floor_of is_sized field_length widths look sum
-returns c = let k = c.args.kind in ap (shown k) c.row_of.ensures ∙ eqb-true (shown k (row k)) (floor_of k) (at right 22 refl k c.requires)
+returns c = let k = c.args.kind in ap (λ (j : ℕ). shown j c.row_of.result) c.from.ensures ∙ ap (shown k) c.row_of.ensures ∙ eqb-true (shown k (row k)) (floor_of k) (at right 22 refl k c.requires)

@@ -1,4 +1,4 @@
-use mathlib.Core.Path.{◌≡◌, refl}
+use mathlib.Core.Path.{◌≡◌, refl, ap, ◌∙◌}
 use mathlib.Core.Bool.{Bool, true, false, not}
 use Prim.Native.Nat.{ℕ, ◌/◌, ◌%◌, ◌^◌}
 use lib.Dec.{eqb}
@@ -26,4 +26,4 @@ right k = agree (bit k) (ignores_size k)
 
 pub returns : goal.returns
 unfolding ignores_size after_fields look
-returns c = let k = c.args.kind in same (bit k) (ignores_size k) (at right 22 refl k c.requires)
+returns c = let k = c.args.kind in ap bit c.from.ensures ∙ same (bit k) (ignores_size k) (at right 22 refl k c.requires)

@@ -4,5 +4,5 @@ use Rattle.blocks_sound.proofs.row_of.Goals as goal
 pub returns-then-kind-lt16 : goal.returns-then-kind-lt16
 returns-then-kind-lt16 c = rw (lt-ltb c.args.kind 16 c.if-kind-lt16.true)
 
-pub returns : goal.returns
-returns c = rw (le-ltb c.args.kind 16 c.if-kind-lt16.false)
+pub returns-else-kind-lt16 : goal.returns-else-kind-lt16
+returns-else-kind-lt16 c = rw (le-ltb c.args.kind 16 c.if-kind-lt16.false)

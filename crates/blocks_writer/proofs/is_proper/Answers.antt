@@ -6,9 +6,9 @@ use Rattle.blocks.specs.Writing.{is_proper}
 use borrow.Author.Rules.{rules}
 use Rattle.blocks_writer.proofs.is_proper.Goals as goal
 
-pub widths_of-requires : goal.widths_of-requires
+pub widths-requires : goal.widths-requires
 unfolding is_proper
-widths_of-requires c = search rules
+widths-requires c = search rules
 
 pub fit_fields-requires : goal.fit_fields-requires
 unfolding is_proper
@@ -28,4 +28,4 @@ is_known-requires c = search rules
 
 pub returns : goal.returns
 unfolding is_proper
-returns c = rw (c.fit_fields.ensures ∙ ap (λ (ws : List ℕ). fits ws c.args.fields) c.widths_of.ensures, c.is_allowed.ensures, c.is_known.ensures)
+returns c = rw (c.fit_fields.ensures ∙ ap (λ (ws : List ℕ). fits ws c.args.fields) c.widths.ensures, c.is_allowed.ensures, c.is_known.ensures)

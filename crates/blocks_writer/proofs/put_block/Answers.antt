@@ -13,17 +13,17 @@ pub put_u8-requires : goal.put_u8-requires
 unfolding field_length size_of
 put_u8-requires c = search rules
 
-pub put_u16-requires : goal.put_u16-requires
+pub put_be-requires : goal.put_be-requires
 unfolding field_length size_of
-put_u16-requires c = search rules
+put_be-requires c = search rules
 
-pub widths_of-requires : goal.widths_of-requires
+pub widths-requires : goal.widths-requires
 unfolding field_length size_of
-widths_of-requires c = search rules
+widths-requires c = search rules
 
 pub put_fields-requires : goal.put_fields-requires
 unfolding field_length size_of
-put_fields-requires c = omega (arith, ap sum c.widths_of.ensures, c.requires)
+put_fields-requires c = omega (arith, ap sum c.widths.ensures, c.requires)
 
 pub put_bytes-requires : goal.put_bytes-requires
 unfolding field_length size_of
@@ -37,4 +37,4 @@ pub returns : goal.returns
 unfolding field_length size_of
 returns c =
     let eight : length c.args.fields ≡ 8 = search rules in
-    block_put _ _ _ _ c.requires.0 c.requires.1 c.widths_of.ensures (omega (arith, eight, few_widths 8 c.widths_of.result)) c.put_u8.ensures c.put_u16.ensures c.put_fields.ensures c.put_bytes.ensures
+    block_put _ _ _ _ c.requires.0 c.requires.1 c.widths.ensures (omega (arith, eight, few_widths 8 c.widths.result)) c.put_u8.ensures c.put_be.ensures c.put_fields.ensures c.put_bytes.ensures

@@ -6,4 +6,4 @@ pub returns : goal.returns
 returns c =
     let a = c.args in
     front_by_steps a.k1.now a.k2.now a.pkt.now (search rules)
-    c.nonce_at-first.ensures c.nonce_at-second.ensures c.first_16-head.ensures c.mask.ensures c.mask-2.ensures
+    c.array_at-first.ensures c.array_at-second.ensures c.array_at-head.ensures c.mask.ensures c.mask-2.ensures

@@ -1,4 +1,4 @@
-use native.Mathlib.Omega.{arith}
+use Rattle.std.proofs.Common.{arith}
 use Rattle.lines.proofs.Scans.{field_past, field_found}
 use Rattle.lines.proofs.field.Goals as goal
 
@@ -8,4 +8,4 @@ returns-then-text-at c = let a = c.args in field_past a.text.now a.at (omega ari
 pub returns : goal.returns
 returns c =
     let a = c.args in
-    field_found a.text.now a.at c.end_of-end.result c.end_of-end.ensures.0
+    field_found a.text.now a.at c.lead_of.result c.lead_of.ensures.value c.lead_of.ensures.bound (omega arith)

@@ -1,23 +1,28 @@
-use mathlib.Core.Path.{refl, sym, ◌∙◌}
-use native.Mathlib.Omega.{arith}
-use borrow.Author.Rules.{rules}
-use Rattle.lines.proofs.Hex.{bytes_refused, bytes_go, bytes_end}
+use Rattle.std.proofs.Common.{◌≡◌, arith, sym, ap, ◌∙◌, Bool, true, false, ◌&&◌, ◌<◌, ◌-◌, length, get_or, take, drop}
+use lib.Dec.{ltb}
+use borrow.Author.Tests.{lt-ltb, le-ltb}
+use Rattle.std.proofs.lemmas.Grind.{common_steps}
+use Rattle.lines.specs.Digits.{pair_of, pairs_of, all_bytes}
+use Rattle.lines.proofs.Hex.{pairs_step, pairs_end}
 use Rattle.lines.proofs.is_hex.Goals as goal
 
-pub loop-i-init : goal.loop-i-init
-loop-i-init c = (search rules, refl)
+pub returns-then-is_none : goal.returns-then-is_none
+returns-then-is_none c =
+    let rest = c.loop-rest.rest.now in
+    let p = pair_of (get_or rest 0 0) (get_or rest 1 0) in
+    let e : p ≡ 256 = grind (arith, common_steps, c.pair.ensures) in
+    let step : all_bytes (pairs_of rest) ≡ (ltb p 256 && all_bytes (pairs_of (take (length rest - 2) (drop 2 rest)))) = pairs_step rest (omega arith) in
+    let f : ltb p 256 ≡ false = le-ltb p 256 (omega arith) in
+    sym (c.loop-rest.invariant ∙ step ∙ ap (λ (b : Bool). b && all_bytes (pairs_of (take (length rest - 2) (drop 2 rest)))) f)
 
-pub returns-then-pair-gt255 : goal.returns-then-pair-gt255
-returns-then-pair-gt255 c =
-    let field = c.args.field.now in
-    bytes_refused field c.loop-i.i (omega arith) (omega (arith, c.pair.ensures, c.if-pair-gt255.true)) ∙ sym c.loop-i.invariant.1
-
-pub loop-i-preserved : goal.loop-i-preserved
-loop-i-preserved c =
-    let field = c.args.field.now in
-    (search rules, c.loop-i.invariant.1 ∙ bytes_go field c.loop-i.i (omega arith) (omega (arith, c.pair.ensures, c.if-pair-gt255.false)))
+pub loop-rest-preserved : goal.loop-rest-preserved
+loop-rest-preserved c =
+    let rest = c.loop-rest.rest.now in
+    let p = pair_of (get_or rest 0 0) (get_or rest 1 0) in
+    let e : p < 256 = grind (arith, common_steps, c.pair.ensures) in
+    let step : all_bytes (pairs_of rest) ≡ (ltb p 256 && all_bytes (pairs_of (take (length rest - 2) (drop 2 rest)))) = pairs_step rest (omega arith) in
+    let f : ltb p 256 ≡ true = lt-ltb p 256 e in
+    c.loop-rest.invariant ∙ step ∙ ap (λ (b : Bool). b && all_bytes (pairs_of (take (length rest - 2) (drop 2 rest)))) f
 
 pub returns : goal.returns
-returns c =
-    let field = c.args.field.now in
-    bytes_end field c.loop-i.i (omega arith) (omega arith) ∙ sym c.loop-i.invariant.1
+returns c = c.is_empty.ensures ∙ pairs_end c.loop-rest.rest.now (omega arith) ∙ sym c.loop-rest.invariant

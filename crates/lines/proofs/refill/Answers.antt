@@ -6,13 +6,11 @@ use Rattle.lines.proofs.refill.Goals as goal
 pub returns-in_err-got-clause-kept : goal.returns-in_err-got-clause-kept
 returns-in_err-got-clause-kept g c =
     let a = c.args in
-    let n = c.between-left.result in
-    let x = c.shift.new.buf in
-    move_stays a.buf.now a.used n (omega arith) x c.read_full.new.buf (length x - n) (unread a.used a.have (length a.buf.now)) c.between-left.ensures c.shift.ensures
+    let x = c.copy_within.new.self in
+    move_stays a.buf.now x c.read_full.new.buf a.used c.min-end.result c.min-start.result (unread a.used a.have (length a.buf.now)) (length x - (c.min-end.result - c.min-start.result)) c.copy_within.ensures.after c.copy_within.ensures.len (omega arith) c.min-start.ensures (omega arith)
 
 pub returns-clause-kept : goal.returns-clause-kept
 returns-clause-kept g c =
     let a = c.args in
-    let n = c.between-left.result in
-    let x = c.shift.new.buf in
-    move_stays a.buf.now a.used n (omega arith) x c.read_full.new.buf (length x - n) (unread a.used a.have (length a.buf.now)) c.between-left.ensures c.shift.ensures
+    let x = c.copy_within.new.self in
+    move_stays a.buf.now x c.read_full.new.buf a.used c.min-end.result c.min-start.result (unread a.used a.have (length a.buf.now)) (length x - (c.min-end.result - c.min-start.result)) c.copy_within.ensures.after c.copy_within.ensures.len (omega arith) c.min-start.ensures (omega arith)

@@ -1,25 +1,18 @@
-use mathlib.Core.Path.{refl, sym, ◌∙◌}
-use native.Mathlib.Omega.{arith}
-use borrow.Author.Rules.{rules}
-use Rattle.lines.proofs.Scans.{whole_ends, whole_goes, whole_none}
+use Rattle.std.proofs.Common.{◌≡◌, ℕ, ◌<◌, ◌≢◌, length, get_or, rules}
+use Rattle.lines.proofs.Scans.{whole_found, whole_none}
 use Rattle.lines.proofs.whole.Goals as goal
 
-pub loop-n-init : goal.loop-n-init
-loop-n-init c = (search rules, refl)
-
-pub returns-then-text-n-eq-NEWLINE : goal.returns-then-text-n-eq-NEWLINE
-returns-then-text-n-eq-NEWLINE c =
+pub returns-in-Some-clause-value : goal.returns-in-Some-clause-value
+returns-in-Some-clause-value c =
     let text = c.args.text.now in
-    let n = c.loop-n.n in
-    record { value = whole_ends text n (omega arith) c.if-text-n-eq-NEWLINE.true ∙ sym c.loop-n.invariant.1; upper_bound = search rules }
+    let i = c.in-Some.i in
+    let e : get_or text i 0 ≡ 10 = search rules in
+    let g : (k : ℕ) → i < k → k < length text → get_or text k 0 ≢ 10 = search rules in
+    let n : i < length text = search rules in
+    whole_found text i (length text) n e g
 
-pub loop-n-preserved : goal.loop-n-preserved
-loop-n-preserved c =
+pub returns-in-None-clause-value : goal.returns-in-None-clause-value
+returns-in-None-clause-value c =
     let text = c.args.text.now in
-    let n = c.loop-n.n in
-    (search rules, c.loop-n.invariant.1 ∙ whole_goes text n (omega arith) c.if-text-n-eq-NEWLINE.false)
-
-pub returns : goal.returns
-returns c =
-    let text = c.args.text.now in
-    record { value = whole_none text c.loop-n.n (omega arith) ∙ sym c.loop-n.invariant.1; upper_bound = search rules }
+    let g : (k : ℕ) → k < length text → get_or text k 0 ≢ 10 = search rules in
+    whole_none text (length text) g

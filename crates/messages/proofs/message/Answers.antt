@@ -1,26 +1,28 @@
-use mathlib.Core.Bool.{true, false}
-use lib.Dec.{eqb}
-use mathlib.Core.Path.{◌≡◌, refl, sym, ◌∙◌}
-use borrow.Author.Tests.{eq-eqb, ne_eqb}
-use Rattle.messages.specs.Delivery.{message_in}
+use mathlib.Core.Path.{◌≡◌, refl}
+use mathlib.Core.List.{[], List}
+use Prim.Native.Nat.{ℕ}
+use Rattle.std.specs.Prelude.{Err}
+use Rattle.blocks.specs.declared.RefusedAt.{RefusedAt}
+use Rattle.messages.specs.Delivery.{nothing, whole_at, message_in}
+use Rattle.messages.specs.Answers.{received_as}
 use Rattle.messages.proofs.message.Goals as goal
 
-pub returns-then-r-eq1 : goal.returns-then-r-eq1
-unfolding message_in
-returns-then-r-eq1 c = c.shown.ensures ∙ sym (simp (eq-eqb _ _ c.if-r-eq1.true))
+pub returns-in-Ok-Nothing : goal.returns-in-Ok-Nothing
+unfolding nothing message_in
+returns-in-Ok-Nothing c = let e = rw c.in-Ok-Nothing.is at c.in-Ok-Nothing.field-0-is in rw (c.in-Ok-Nothing.is, e) refl
 
-pub returns-then-r-eq2 : goal.returns-then-r-eq2
-unfolding message_in
-returns-then-r-eq2 c =
-    let a = c.args in
-    let t : eqb a.r.from 1 ≡ false = ne_eqb a.r.from 1 c.if-r-eq1.false in
-    let u : eqb a.r.from 2 ≡ true = eq-eqb a.r.from 2 c.if-r-eq2.true in
-    c.shown-then-r-eq2.ensures ∙ rw (t, u) refl
+pub returns-in-Ok-Whole : goal.returns-in-Ok-Whole
+unfolding whole_at message_in
+returns-in-Ok-Whole c = let e = rw c.in-Ok-Whole.is at c.in-Ok-Whole.field-0-is in rw (c.in-Ok-Whole.is, e) c.shown.ensures
 
-pub returns : goal.returns
+pub returns-in-Ok-Rebuilt : goal.returns-in-Ok-Rebuilt
 unfolding message_in
-returns c =
-    let a = c.args in
-    let t : eqb a.r.from 1 ≡ false = ne_eqb a.r.from 1 c.if-r-eq1.false in
-    let u : eqb a.r.from 2 ≡ false = ne_eqb a.r.from 2 c.if-r-eq2.false in
-    rw (t, u) refl
+returns-in-Ok-Rebuilt c = let e = rw c.in-Ok-Rebuilt.is at c.in-Ok-Rebuilt.field-0-is in rw (c.in-Ok-Rebuilt.is, e) c.shown-in-Ok-Rebuilt.ensures
+
+-- a refused block shows nothing
+unshown : (payload out : List ℕ) (r : RefusedAt) → [] ≡ message_in payload out (received_as (Err r))
+unfolding nothing message_in
+unshown payload out r = refl
+
+pub returns-in-Err : goal.returns-in-Err
+returns-in-Err c = rw c.in-Err.is (unshown c.args.payload.now c.args.out.now c.in-Err.field-0)

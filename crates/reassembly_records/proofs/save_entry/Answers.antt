@@ -7,4 +7,4 @@ pub returns : goal.returns
 unfolding with_entry
 returns c =
     let a = c.args in
-    entry_put a.rec.now (entry_place a.i a.k) a.e (search rules) c.put_u16_le.ensures c.put_u16_le-2.ensures
+    entry_put a.rec.now (entry_place a.i a.k) a.e (search rules) c.put_le.ensures c.put_le-2.ensures

@@ -10,8 +10,8 @@ unfolding with_head
 returns c =
     let a = c.args in
     head_put a.rec.now (a.i * head_size) a.h (search rules)
-    c.put_u32_le.ensures
-    c.put_u64_le.ensures
-    c.put_u32_le-2.ensures
-    c.put_u16_le.ensures
+    c.put_le.ensures
+    c.put_le-2.ensures
+    c.put_le-3.ensures
+    c.put_le-4.ensures
     c.copy_to.ensures

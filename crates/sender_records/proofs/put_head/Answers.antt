@@ -9,4 +9,4 @@ pub returns : goal.returns
 returns c =
     let a = c.args in
     (puts a.rec.now 0 4 4 4 (little_bytes 4 a.highest) (little_bytes 4 a.count) (length_little 4 a.highest) (length_little 4 a.count) refl (search rules)
-    c.put_u32_le.ensures c.put_u32_le-2.ensures).0
+    c.put_le.ensures c.put_le-2.ensures).0

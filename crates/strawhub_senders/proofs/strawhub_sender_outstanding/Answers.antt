@@ -1,16 +1,16 @@
-use mathlib.Core.Path.{sym, ap₂}
-use Rattle.sender.proofs.Lent.{lent_59, lent_0}
-use Rattle.sender.proofs.Shown.{none_there}
+use Rattle.std.proofs.Common.{◌∙◌, ap}
+use Rattle.sender.specs.Packets.{packet_as}
+use Rattle.sender.specs.Outcomes.{Told}
 use Rattle.numbers_outcomes.specs.Outcomes.{outcome}
+use Rattle.sender.proofs.Shown.{shown, not_shown}
+use Rattle.strawhub_senders.proofs.strawhub_sender_outstanding.Goals.{in-Some, in_default}
 use Rattle.strawhub_senders.proofs.strawhub_sender_outstanding.Goals as goal
 
-pub returns-then-sender-lt-SENDER_SIZE : goal.returns-then-sender-lt-SENDER_SIZE
-returns-then-sender-lt-SENDER_SIZE c =
-    let a = c.args in
-    let none = none_there a.sender.now a.k a.out.now c.if-sender-lt-SENDER_SIZE.true in
-    (ap₂ outcome (sym (lent_59 a.sender.now c.if-sender-lt-SENDER_SIZE.true)) none.0, none.1)
-
 pub returns : goal.returns
-returns c =
-    let got = c.packet_in-count.ensures in
-    (ap₂ outcome (sym (lent_0 c.args.sender.now c.if-sender-lt-SENDER_SIZE.false)) got.0, got.1)
+returns c = (
+  c.told.ensures ∙ ap (λ (t : Told). outcome t.answer t.value) c.outstanding_in.ensures,
+  elim c.match-packet_in.branch [
+    | in-Some w ↦ w.out-is ∙ rw (w.from.ensures, w.from-in-Some.ensures) (shown c.args.sender.now c.args.k c.args.out.now (packet_as w.in-Some.packet) w.in-Some.ensures.0 w.in-Some.ensures.1)
+    | in_default w ↦ w.out-is ∙ not_shown c.args.sender.now c.args.k c.args.out.now w.in_default.ensures
+  ],
+)

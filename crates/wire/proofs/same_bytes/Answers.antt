@@ -1,37 +1,31 @@
-use borrow.Author.Rules.{rules}
-use native.Mathlib.Omega.{arith}
-use lib.Seq.{take-length}
-use lib.Dec.{eqb}
-use lib.ListN.{length, take, get_or}
-use mathlib.Core.Bool.{Bool, ◌&&◌}
-use mathlib.Core.Path.{◌≡◌, refl, sym, ap, ◌∙◌}
-use Prim.Native.Nat.{ℕ}
+use Rattle.std.proofs.Common.{◌≡◌, rules, ◌∙◌, refl, sym, length, arith}
+use Rattle.std.proofs.lemmas.List.{length_push}
+use Rattle.std.proofs.lemmas.Slice.Zip.{zip_turn, zip_end}
 use Rattle.wire.specs.Parts.{same}
-use Rattle.wire.proofs.Same.{same_more, same_apart}
+use Rattle.wire.proofs.Same.{same_next, same_taken, same_apart}
 use Rattle.wire.proofs.same_bytes.Goals as goal
 
-pub returns-then-n-b : goal.returns-then-n-b
-returns-then-n-b c = sym (same_apart c.args.a.now c.args.b.now c.if-n-b.true)
+pub returns-then-a-b : goal.returns-then-a-b
+returns-then-a-b c = sym (same_apart c.args.a.now c.args.b.now c.if-a-b.true)
 
-pub loop-i-init : goal.loop-i-init
+pub loop-x-init : goal.loop-x-init
 unfolding same
-loop-i-init c = (search rules, search rules, refl, refl)
+loop-x-init c = (search rules, refl)
 
-pub loop-i-preserved : goal.loop-i-preserved
-loop-i-preserved c =
-    let a = c.args in
-    let i = c.loop-i.i in
-    let more : Bool = eqb (get_or a.a.now i 0) (get_or a.b.now i 0) in (
-      search rules,
-      search rules,
-      refl,
-      ap (λ (ok : Bool). ok && more) c.loop-i.invariant.3 ∙ same_more a.a.now a.b.now i (omega arith) (omega arith),
-    )
+pub loop-x-preserved : goal.loop-x-preserved
+loop-x-preserved c =
+    let l = c.loop-x in
+    let s = c.into_iter-x-iterator.result in
+    let first : s.a.rest.now ≡ c.args.a.now = cc in
+    let second : s.b.rest.now ≡ c.args.b.now = cc in
+    let t = zip_turn c.args.a.now c.args.b.now l.yielded s l.x-iterator c.next.new.self _ first second l.yielded_by _ c.in-Some.is c.next.ensures.steps in
+    (l.invariant.0, same_next c.args.a.now c.args.b.now (length l.yielded) _ _ _ _ l.invariant.1 t (length_push l.yielded _))
 
 pub returns : goal.returns
 returns c =
-    let a = c.args in
-    let i = c.loop-i.i in
-    let ea : i ≡ length a.a.now = omega arith in
-    let eb : i ≡ length a.b.now = omega arith in
-    c.loop-i.invariant.3 ∙ ap (λ (k : ℕ). same (take k a.a.now) (take i a.b.now)) ea ∙ ap (λ (k : ℕ). same (take (length a.a.now) a.a.now) (take k a.b.now)) eb ∙ rw (take-length, take-length)
+    let l = c.loop-x in
+    let s = c.into_iter-x-iterator.result in
+    let first : s.a.rest.now ≡ c.args.a.now = cc in
+    let second : s.b.rest.now ≡ c.args.b.now = cc in
+    let n = zip_end c.args.a.now c.args.b.now l.yielded s l.x-iterator c.next.new.self _ first second l.yielded_by c.in-None.is c.next.ensures.steps in
+    l.invariant.1 ∙ same_taken c.args.a.now c.args.b.now (length l.yielded) (omega (arith, n, l.invariant.0)) (omega (arith, n, l.invariant.0))

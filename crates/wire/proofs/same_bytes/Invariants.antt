@@ -1,11 +1,8 @@
-use lib.ListN.{length, take}
-use mathlib.Core.Path.{◌≡◌}
-use Prim.Native.Nat.{◌≤◌, ◌-◌}
+use Rattle.std.proofs.Common.{◌≡◌, length, take}
 use Rattle.wire.specs.Parts.{same}
 use Rattle.wire.proofs.same_bytes.Given as goal
 
-abbrev pub invariant-loop-i : goal.invariant-loop-i
-invariant-loop-i l = (l.i ≤ l.n) × (length l.a ≡ length l.b) × (l.n ≡ length l.a) × (l.ok ≡ same (take l.i l.a) (take l.i l.b))
-
-abbrev pub decreases-loop-i : goal.decreases-loop-i
-decreases-loop-i l = l.n - l.i
+abbrev pub invariant-loop-x : goal.invariant-loop-x
+invariant-loop-x l =
+    let k = length l.yielded in
+    (length l.a ≡ length l.b) × (l.ok ≡ same (take k l.a) (take k l.b))

@@ -8,4 +8,6 @@ use Rattle.acks_reports.proofs.ack_block.fields_of.Goals as goal
 
 pub returns : goal.returns
 unfolding eight ack_fields_of
-returns c = let a = c.args in ap (λ (l : List ℕ). set (set l 0 a.r.through) 1 a.r.count) c.no_fields-fields.ensures
+returns c =
+    let r = c.args.report.now in
+    rw (c.from.ensures, c.from-2.ensures) (ap (λ (l : List ℕ). set (set l 0 r.through) 1 r.count) c.no_fields-fields.ensures)

@@ -1,41 +1,23 @@
-use Rattle.acks.proofs.Handed.{handed}
-use native.Mathlib.Omega.{arith}
-use mathlib.Core.Path.{◌≡◌, sym, ap, ◌∙◌}
-use Prim.Native.Nat.{ℕ, min}
-use lib.ListN.{length, take}
-use lib.Seq.{length-take-le}
+use mathlib.Core.Path.{◌≡◌}
+use mathlib.Core.List.{List}
+use Prim.Native.Nat.{ℕ}
+use Rattle.std.specs.Prelude.{Err}
+use lib.ListN.{length}
 use borrow.Author.Tests.{ne_eqb}
-use Rattle.acks.specs.Reporting.{pair_bytes}
+use Rattle.std.proofs.lemmas.Result.{err_from_is_err_and}
+use Rattle.refusals.specs.declared.Refusal.{Refusal}
+use Rattle.refusals.specs.Numbers as Numbers
+use Rattle.refusals.proofs.Numbers.{not_zero}
+use Rattle.acks.specs.Reporting.{refused_report}
 use Rattle.acks.specs.AckBlocks.{ack_writing, ack_room}
-use Rattle.wire.proofs.Slices.{take_min}
-use borrow.Author.Rules.{rules}
 use Rattle.acks_reports.proofs.ack_block.write_ack.Goals as goal
 
-pub returns-then-number-ne0 : goal.returns-then-number-ne0
-unfolding ack_writing ack_room
-returns-then-number-ne0 c =
-    let a = c.args in
-    let refused : a.report.number ≡ 0 → ⊥ = c.if-number-ne0.true in
-    (simp (ne_eqb a.report.number 0 refused), simp (ne_eqb a.report.number 0 refused))
+-- a refused report is not written
+unwritten : (x : Refusal) (room : List ℕ) → (Err (Numbers.number x) ≡ ack_writing (refused_report (Numbers.number x)) (length room)) × (room ≡ ack_room (refused_report (Numbers.number x)) room)
+unfolding ack_writing ack_room refused_report
+unwritten x room = (rw (ne_eqb (Numbers.number x) 0 (not_zero x)), rw (ne_eqb (Numbers.number x) 0 (not_zero x)))
 
-pub slice_bounds-pairs-end : goal.slice_bounds-pairs-end
-slice_bounds-pairs-end c =
-    let long : length c.args.report.pairs ≡ 254 = search rules in
-    omega (arith, long, c.shorter-len.ensures)
-
-pub slice_bounds-write_block-end : goal.slice_bounds-write_block-end
-slice_bounds-write_block-end c =
-    let long : length c.args.report.pairs ≡ 254 = search rules in
-    sym (length-take-le _ _ (omega (arith, long, c.shorter-len.ensures)))
-
-pub returns : goal.returns
-unfolding pair_bytes
-returns c =
-    let long : length c.args.report.pairs ≡ 254 = search rules in
-    let a = c.args in
-    let len = c.shorter-len in
-    let cut : min a.report.len 254 ≡ min a.report.len (length a.report.pairs) = ap (min a.report.len) (sym long) in
-    let pairs : take len.result a.report.pairs ≡ take a.report.len a.report.pairs =
-    ap (λ (k : ℕ). take k a.report.pairs) (len.ensures ∙ cut) ∙ take_min a.report.len a.report.pairs in
-    handed a.report a.room.now (take len.result a.report.pairs) c.write_block.new.room c.fields_of.result
-    c.write_block.result c.if-number-ne0.false c.fields_of.ensures pairs c.write_block.ensures.0 c.write_block.ensures.1
+pub returns-in_err-report : goal.returns-in_err-report
+returns-in_err-report c =
+    let p = err_from_is_err_and c.from_residual.result c.from_residual.ensures.1 in
+    rw (p.1, p.2, c.in_err-report.was) (unwritten c.in_err-report.field-0.0 c.args.room.now)

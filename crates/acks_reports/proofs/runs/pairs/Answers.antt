@@ -38,26 +38,26 @@ loop-used-init c =
     record {
       w = [];
       below = omega arith;
-      written = c.blank-bytes.ensures;
+      written = c.none.ensures.0;
       counted = refl;
       whole = rw (e, f);
-      missing = rw (e, f) c.requires.3;
+      missing = rw (e, f) c.requires.2;
       even = omega arith;
       short = λ l. omega arith;
       fits = omega arith;
     }
 
 pub overflow_add-mid : goal.overflow_add-mid
-overflow_add-mid c = omega (arith, nack_in c.args.m.now c.args.top c.args.k c.loop-used.used c.run-nack.result c.run-nack.ensures (omega arith))
+overflow_add-mid c = omega (arith, nack_in c.args.marks.now c.args.top c.args.k c.loop-used.used c.run-nack.result c.run-nack.ensures (omega arith))
 
 pub overflow_sub-top-in-loop-used : goal.overflow_sub-top-in-loop-used
-overflow_sub-top-in-loop-used c = omega (arith, nack_in c.args.m.now c.args.top c.args.k c.loop-used.used c.run-nack.result c.run-nack.ensures (omega arith))
+overflow_sub-top-in-loop-used c = omega (arith, nack_in c.args.marks.now c.args.top c.args.k c.loop-used.used c.run-nack.result c.run-nack.ensures (omega arith))
 
 pub overflow_sub-k-in-loop-used : goal.overflow_sub-k-in-loop-used
-overflow_sub-k-in-loop-used c = omega (arith, nack_in c.args.m.now c.args.top c.args.k c.loop-used.used c.run-nack.result c.run-nack.ensures (omega arith))
+overflow_sub-k-in-loop-used c = omega (arith, nack_in c.args.marks.now c.args.top c.args.k c.loop-used.used c.run-nack.result c.run-nack.ensures (omega arith))
 
 pub run-ack-requires : goal.run-ack-requires
-run-ack-requires c = omega (arith, nack_in c.args.m.now c.args.top c.args.k c.loop-used.used c.run-nack.result c.run-nack.ensures (omega arith))
+run-ack-requires c = omega (arith, nack_in c.args.marks.now c.args.top c.args.k c.loop-used.used c.run-nack.result c.run-nack.ensures (omega arith))
 
 pub overflow_cast-bytes : goal.overflow_cast-bytes
 overflow_cast-bytes c = omega (arith, (next_turn (omega arith) c.loop-used.invariant c.run-nack.ensures c.run-ack.ensures).within)
@@ -96,6 +96,6 @@ returns c =
     let a = c.args in
     let i = c.loop-used in
     let z : a.k - i.used ≡ 0 = omega (arith, i.invariant.below) in
-    let e : later_runs true (view a.m.now a.top a.k) ≡ i.invariant.w =
-    i.invariant.whole ∙ rw (z, view_none a.m.now (a.top - i.used)) (append-nil i.invariant.w) in
+    let e : later_runs true (view a.marks.now a.top a.k) ≡ i.invariant.w =
+    i.invariant.whole ∙ rw (z, view_none a.marks.now (a.top - i.used)) (append-nil i.invariant.w) in
     (i.invariant.written ∙ ap padded (sym e), i.invariant.counted ∙ ap length (sym e))

@@ -1,34 +1,18 @@
-use native.Mathlib.Omega.{arith}
-use mathlib.Core.Path.{◌≡◌, sym, ap₂, ◌∙◌}
-use mathlib.Core.Bool.{true, false}
-use mathlib.Core.List.{List}
-use Prim.Native.Nat.{ℕ}
-use Rattle.wire.specs.Parts.{part}
-use Rattle.wire.specs.Numbers.{little_at}
-use Rattle.wire.proofs.Parts.{part_is}
-use Rattle.acks.specs.Tracking.{is_duplicate}
-use Rattle.acks.specs.Recorded.{tracker_at, duplicate_there}
-use Rattle.acks.proofs.Recording.{is_short_lem, is_long}
+use Rattle.std.proofs.lemmas.Result.{err_from_is_err_and}
+use borrow.Author.Rules.{rules}
+use Rattle.acks.specs.Recorded.{duplicate_there}
+use Rattle.acks.proofs.Recording.{asked}
 use Rattle.acks_tracker.proofs.recorded.is_duplicate_in.Goals as goal
 
-pub returns-then-tracker-lt-TRACKER_SIZE : goal.returns-then-tracker-lt-TRACKER_SIZE
+pub returns-in_err-lent : goal.returns-in_err-lent
 unfolding duplicate_there
-returns-then-tracker-lt-TRACKER_SIZE c = rw (is_short_lem c.args.tracker.now (omega arith))
-
-pub returns-then-holds : goal.returns-then-holds
-unfolding duplicate_there tracker_at
-returns-then-holds c =
-    let a = c.args in
-    let e : is_duplicate (little_at 4 a.tracker.now 0) (part a.tracker.now 4 255) a.n ≡ true =
-    ap₂ (λ (t : ℕ) (m : List ℕ). is_duplicate t m a.n) (sym c.le_u32-top.ensures) (sym (part_is a.tracker.now 4 255))
-    ∙ sym c.holds.ensures ∙ c.if-holds.true in
-    rw (is_long a.tracker.now (omega arith), e)
+returns-in_err-lent c =
+    let p = err_from_is_err_and c.from_residual.result c.from_residual.ensures.1 in
+    let e = c.in_err-lent.ensures in
+    (rw (p.1, p.2, e.0) e.1, rw (p.1, p.2) e.1)
 
 pub returns : goal.returns
-unfolding duplicate_there tracker_at
+unfolding duplicate_there
 returns c =
-    let a = c.args in
-    let e : is_duplicate (little_at 4 a.tracker.now 0) (part a.tracker.now 4 255) a.n ≡ false =
-    ap₂ (λ (t : ℕ) (m : List ℕ). is_duplicate t m a.n) (sym c.le_u32-top.ensures) (sym (part_is a.tracker.now 4 255))
-    ∙ sym c.holds.ensures ∙ c.if-holds.false in
-    rw (is_long a.tracker.now (omega arith), e)
+    let e = c.in_ok-lent.ensures in
+    (rw (e.0, c.is_duplicate.ensures, e.1, e.2) (asked _), search rules)

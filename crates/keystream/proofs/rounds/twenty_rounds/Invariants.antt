@@ -1,9 +1,6 @@
-use Rattle.std.proofs.Common.{◌≡◌, ◌-◌, ◌≤◌}
+use Rattle.std.proofs.Common.{◌≡◌}
 use Rattle.keystream.specs.Chacha.{rounds}
 use Rattle.keystream.proofs.rounds.twenty_rounds.Given as goal
 
 abbrev pub invariant-loop : goal.invariant-loop
-invariant-loop l = (l.counter ≤ 10) × (l.t ≡ rounds l.counter l.initial.t)
-
-abbrev pub decreases-loop : goal.decreases-loop
-decreases-loop l = 10 - l.counter
+invariant-loop l = l.t ≡ rounds l.counter l.initial.t

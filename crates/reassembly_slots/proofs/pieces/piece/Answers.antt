@@ -20,8 +20,8 @@ pub returns : goal.returns
 unfolding room_of piece_at
 returns c =
     let a = c.args in
-    let p = c.usize_from_u16-p.result in
-    let n = c.usize_from_u16-n.result in
+    let p = c.from-p.result in
+    let n = c.from-n.result in
     let b : ℕ = a.i * slot_size in
     ap (λ (z : List ℕ). take (p + n - p) (drop p z)) (slice_is a.room.now b slot_size)
     ∙ slice_is (part a.room.now b slot_size) p n

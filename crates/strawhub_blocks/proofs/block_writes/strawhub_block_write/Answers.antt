@@ -11,8 +11,8 @@ pub returns : goal.returns
 unfolding writing_by room_by
 returns c =
     let a = c.args in
-    let f = c.as_fields-f.ensures in
-    let w = c.write_block-w.ensures in (
+    let f = c.as_fields.ensures in
+    let w = c.write_block-answer.ensures in (
       c.outcome_of.ensures ∙ ap write_outcome (w.0 ∙ ap (λ (l : List ℕ). writing a.kind l a.bytes.now (length a.room.now)) f),
       w.1 ∙ ap (λ (l : List ℕ). room_after a.kind l a.bytes.now a.room.now) f,
     )

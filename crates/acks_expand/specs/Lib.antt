@@ -1,0 +1,2 @@
+-- How the contracts say what an expansion answers.
+pub mod Expanding

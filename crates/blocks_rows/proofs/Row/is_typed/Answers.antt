@@ -1,0 +1,6 @@
+use Rattle.blocks.proofs.Rows.{row_right}
+use borrow.Author.Rules.{rules}
+use Rattle.blocks_rows.proofs.Row.is_typed.Goals as goal
+
+pub returns : goal.returns
+returns c = cc ((row_right c.args.self.kind (search rules)).is_typed, c.args.self.is_row)

@@ -1,6 +1,0 @@
-use Rattle.blocks.proofs.Rows.{row_right}
-use borrow.Author.Rules.{rules}
-use Rattle.blocks_rows.proofs.is_typed.Goals as goal
-
-pub returns : goal.returns
-returns c = cc ((row_right c.args.kind (search rules)).is_typed, c.requires)

@@ -1,0 +1,2 @@
+-- What the results of the functions say of a type.
+pub mod Types

@@ -1,0 +1,2 @@
+-- What the contracts of `header_kinds` cite.
+pub mod Types

@@ -1,0 +1,2 @@
+-- What the contracts of every crate cite of refusals.
+pub mod Numbers
