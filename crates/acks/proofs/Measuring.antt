@@ -60,16 +60,16 @@ summed_end through count ps sum names i s h =
 
 -- what measuring answers: the numbers stay at 0 or above, or they go below
 module _ (through count : ℕ) (ps : List ℕ) (sum names i : ℕ) (s : Summed through count ps sum names i) where
-  pub measured : length ps ≤ i + 1 → sum ≤ through →
-      (names ≡ length (ack_numbers through count ps)) × (through - sum + (count + run_sum (whole_pairs ps)) ≡ through)
-  measured h g =
-      let e = summed_end through count ps sum names i s h in
-      (e.1, omega arith)
-
   pub within : length ps ≤ i + 1 → sum ≤ through → goes_below through count ps ≡ false
   within h g =
       let e = summed_end through count ps sum names i s h in
       above_44 through count ps (omega arith)
+
+  pub measured : length ps ≤ i + 1 → sum ≤ through →
+      (goes_below through count ps ≡ false) × (names ≡ length (ack_numbers through count ps)) × (through - sum + (count + run_sum (whole_pairs ps)) ≡ through)
+  measured h g =
+      let e = summed_end through count ps sum names i s h in
+      (within h g, e.1, omega arith)
 
   pub beyond : through < sum → goes_below through count ps ≡ true
   beyond g = below_44 through count ps (omega (arith, s.sums))

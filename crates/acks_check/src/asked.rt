@@ -1,4 +1,5 @@
 // Lines that ask and change nothing: a duplicate, a report, and the Rust's report at the same place.
+// as: std has no From between these widths; each number fits its place, or is cut on purpose.
 use crate::{Both, expanded, read};
 use acks::{AckInfo, PairBytes};
 use acks_expand::Ack;

@@ -1,4 +1,5 @@
 // Lines that expand an acknowledgement.
+// as: std has no From between these widths; each number fits its place, or is cut on purpose.
 use crate::read;
 use acks::AckInfo;
 use acks_expand::Ack;

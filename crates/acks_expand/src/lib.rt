@@ -57,7 +57,7 @@ impl<'a> Ack<'a> {
     }
 }
 
-// The k numbers below above, falling, at a place of the list.
+// The k numbers below above, falling, at a place of the list. j is the place of what is put and of what it is made of.
 fn fall(list: &mut [u32], at: usize, above: u32, k: u32)
     requires { (at + k ≤ length list.old) × (k ≤ above) }
     ensures { list.new ≡ splice list.old at (falling (above - 1) k) }
@@ -118,7 +118,7 @@ impl Ack<'_> {
     }
 }
 
-// The pairs are a part of the payload that the block was read from; what lies outside of it is not there.
+// The pairs are a part of the payload that the block was read from; what lies outside of it is not there. Two min say it, as short as a call would.
 pub fn expand_ack(
     payload: &[u8],
     through: u32,

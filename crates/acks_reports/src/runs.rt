@@ -1,4 +1,5 @@
 // Runs of received and missing numbers, downward, and the pairs that a report makes of them.
+// as: std has no From between these widths; each number fits its place, or is cut on purpose.
 ghost use Rattle.std.specs.Prelude.{◌≡◌, true, not, eqb, ◌≤◌, length, reverse};
 ghost use Rattle.std.specs.List.{prefix_len};
 ghost use Rattle.std.specs.Bool.{beq};
@@ -42,7 +43,7 @@ pub(crate) fn pairs(marks: &[u8; 255], top: u32, k: u32) -> PairBytes
     let mut bytes = PairBytes::none().bytes;
     let mut len: usize = 0;
     let mut used: u32 = 0;
-    // A while: a turn goes on by the two runs that it found, which no range or chain says more plainly.
+    // A while: a turn goes on by the two runs that it found, which no range or chain says more plainly; bytes and len are put here alone.
     while used < k {
         let nack = run(marks, top - used, k - used, false);
         let mid = used + nack;

@@ -1,4 +1,5 @@
 // The tracker of received packet numbers, by value; in place is `recorded`. The Rust's `RemoteAckManager`.
+// Functions and no methods: pages name them here, and methods would stand with the type in acks, below acks_marks, which these call.
 #![tactic(auto)]
 
 pub mod recorded;

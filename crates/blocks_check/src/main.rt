@@ -1,4 +1,5 @@
 // Replays a list of payloads: a line is a payload in hex and how many records its list holds. Prints counts by type and by refusal.
+// as: std has no From between these widths; each number fits its place, or is cut on purpose.
 #![tactic(auto)]
 
 mod tally;

@@ -1,4 +1,5 @@
 // Counts of what the payloads gave.
+// as: std has no From between these widths; each number fits its place, or is cut on purpose.
 use refusals::Refusal;
 use std::io;
 

@@ -134,7 +134,7 @@ fn address(size: usize, there: usize) -> Result<usize, Refusal>
     Err(Refusal::AddressSize)
 }
 
-// Whether a type reads its fields whatever the size says.
+// Whether a type reads its fields whatever the size says. Types by their numbers, as 01's table has them.
 fn ignores_size(row: Row) -> bool
     ensures { result ≡ ignores_size row.kind }
 {

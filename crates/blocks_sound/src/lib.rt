@@ -61,7 +61,7 @@ pub fn body_length(kind: u8, size: u16) -> usize
     at_least(floor_of(kind), counted(kind, usize::from(size)))
 }
 
-// The tests by size alone.
+// The tests by size alone, of types by their numbers, as 01's table has them.
 #[tactic(auto, using(std::proofs::lemmas::Bool::Decides::nat_tests), unfolding(blocks::specs::Sound::tested))]
 fn is_tested(kind: u8, size: usize) -> bool
     ensures { result ≡ tested kind size }
@@ -74,7 +74,7 @@ fn is_tested(kind: u8, size: usize) -> bool
     }
 }
 
-// Whether a body whose bytes are there is sound.
+// Whether a body whose bytes are there is sound; types by their numbers, as 01's table has them.
 fn is_sound(payload: &[u8], body: usize, kind: u8, size: usize) -> bool
     requires { body + body_length kind size ≤ length payload.now }
     ensures { result ≡ sound payload.now body kind size }

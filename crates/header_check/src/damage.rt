@@ -1,4 +1,5 @@
 // Damaged copies of packets: the masks are XORs, so a bit changed in a masked byte is that bit changed in the plain one.
+// as: std has no From between these widths; each number fits its place, or is cut on purpose.
 use crate::fields::Packet;
 use header::Fields;
 use refusals::Refusal;

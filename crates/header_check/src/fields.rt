@@ -52,7 +52,7 @@ impl Packet {
         })
     }
 
-    // Whether its type has a short header.
+    // Whether its type has a short header. Types by number, as the list has them: one that 01 does not list is a case too.
     pub(crate) fn is_short(&self) -> bool {
         self.kind == 2 || self.kind == 6
     }

@@ -23,7 +23,7 @@ fn xor_with(part: &mut [u8], stream: &[u8])
     requires { length part.old ≤ length stream.now }
     ensures { part.new ≡ xor_with part.old stream.now }
 {
-    // Not `zip(stream)`: after an adapter of `iter_mut` a proof knows nothing of the bytes.
+    // Not `zip(stream)`: after a `zip` of `iter_mut` a proof knows nothing of the bytes.
     for (i, byte) in part.iter_mut().enumerate() {
         *byte ^= stream[i];
     }

@@ -63,7 +63,7 @@ fn rebuilt_by(at: usize, answer: Result<Arrival, Refusal>, id: u32) -> Result<De
     }
 }
 
-// The part of a slice from a place on, as far as it is there.
+// The part of a slice from a place on, as far as it is there: `part`, where `get` would want a sum that may wrap.
 #[tactic(auto, using(wire::proofs::Slices::slice_is, wire::proofs::Slices::slice_to_end, wire::proofs::Slices::part_past))]
 fn shown(b: &[u8], start: usize, len: usize) -> &[u8]
     ensures { result.now ≡ part b.now start len }

@@ -7,7 +7,7 @@ ghost use Rattle.refusals.specs.Numbers.{number, numbered};
 
 use refusals::Refusal;
 
-// 0 and a length or a place; or the number of the refusal and, where a block is read, its place.
+// 0 and a length or a place; or the number of the refusal and, where a block is read, its place. Number and value in one struct: C is given it.
 #[repr(C)]
 #[derive(Clone, Copy, Debug, PartialEq, Eq)]
 pub struct Outcome {

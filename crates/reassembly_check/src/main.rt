@@ -1,4 +1,5 @@
 // Replays sequences of calls on one store, and compares each answer and the assembly buffer with the list's. tests/reassembly_lists.py writes the list.
+// as: std has no From between these widths; each number fits its place, or is cut on purpose.
 #![tactic(auto)]
 
 ghost use Rattle.std.specs.Prelude.{◌≤◌};

@@ -101,7 +101,7 @@ pub fn remember(rec: &mut [u8], id: u32, second: u64)
     save_count(rec, MOST_REMEMBERED);
 }
 
-// The k-th, where it is due, is passed by; else it moves down behind those that are kept. How many are kept then.
+// The k-th, where it is due, is passed by; else it moves down behind those that are kept, two places used one by one. How many are kept then.
 #[tactic(auto, unfolding(reassembly::specs::Remembered::sifted_one, reassembly::specs::Memory::is_due))]
 fn sift_one(rec: &mut [u8], kept: usize, k: usize, second: u64) -> usize
     requires { (share_size ≤ length rec.old) × (kept ≤ k) × (k < most_remembered) }

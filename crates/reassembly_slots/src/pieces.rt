@@ -1,5 +1,5 @@
 // Held pieces as parts of the room, and the message that they make.
-ghost use Rattle.std.specs.Prelude.{◌≡◌, true, false, ◌+◌, ◌<◌, ◌≤◌, length, MatchOption};
+ghost use Rattle.std.specs.Prelude.{◌≡◌, false, ◌+◌, ◌<◌, ◌≤◌, length};
 ghost use Rattle.wire.specs.Parts.{splice};
 ghost use Rattle.reassembly.specs.Sizes.{slot_size, share_room, share_size};
 ghost use Rattle.reassembly.specs.Record.{entry_at, outside, piece_at};
@@ -30,6 +30,14 @@ pub fn piece<'a>(rec: &[u8], room: &'a [u8], i: usize, k: usize) -> &'a [u8]
     &s[p..q]
 }
 
+// What the record says of a piece or a message: whether it names bytes outside its slot's room, and the length.
+// No Option: docs/FREE.md names measure, which tells the length where it names bytes outside too.
+#[derive(Clone, Copy, Debug, PartialEq, Eq)]
+pub struct Measured {
+    pub outside: bool,
+    pub size: usize,
+}
+
 // A message being joined: slot `slot` of a neighbour's share of the record, where number `number` is the piece that the call brings.
 #[derive(Clone, Copy)]
 pub struct Joining<'a> {
@@ -42,33 +50,39 @@ pub struct Joining<'a> {
 }
 
 impl Joining<'_> {
-    // The length of number k; none where its entry names bytes outside its slot's room.
+    // Number k measured.
     #[tactic(auto, unfolding(reassembly::specs::Joining::outside_or, reassembly::specs::Joining::length_or))]
-    fn length_of(&self, k: usize) -> Option<usize>
+    fn measure_one(&self, k: usize) -> Measured
         requires { (k < 128) × (length self.now.bytes.now ≤ 1500) }
-        ensures { MatchOption result (outside_or self.now.rec.now self.now.slot self.now.number k ≡ true) (λ n. (outside_or self.now.rec.now self.now.slot self.now.number k ≡ false) × (n ≡ length_or self.now.rec.now self.now.slot self.now.number (length self.now.bytes.now) k) × (n ≤ slot_size)) }
+        ensures { (result.outside ≡ outside_or self.now.rec.now self.now.slot self.now.number k) × (result.size ≡ length_or self.now.rec.now self.now.slot self.now.number (length self.now.bytes.now) k) × (result.size ≤ slot_size) }
     {
         if k == self.number {
-            return Some(self.bytes.len());
+            return Measured {
+                outside: false,
+                size: self.bytes.len(),
+            };
         }
         let e = reassembly_records::load_entry(self.rec, self.slot, k);
-        if outside(e) {
-            return None;
+        Measured {
+            outside: outside(e),
+            size: usize::from(e.len),
         }
-        Some(usize::from(e.len))
     }
 
-    // The length of the message of the numbers up to last; none where the record names bytes outside for one of them.
+    // The message of the numbers up to last measured.
     #[tactic(auto, unfolding(reassembly::specs::Joining::joins_outside))]
-    pub fn measure(&self, last: usize) -> Option<usize>
+    pub fn measure(&self, last: usize) -> Measured
         requires { (last < 128) × (length self.now.bytes.now ≤ 1500) }
-        ensures { MatchOption result (joins_outside self.now.rec.now self.now.slot self.now.number (last + 1) ≡ true) (λ n. (joins_outside self.now.rec.now self.now.slot self.now.number (last + 1) ≡ false) × (n ≡ sum_of (length_or self.now.rec.now self.now.slot self.now.number (length self.now.bytes.now)) (last + 1))) }
+        ensures { (result.outside ≡ joins_outside self.now.rec.now self.now.slot self.now.number (last + 1)) × (result.size ≡ sum_of (length_or self.now.rec.now self.now.slot self.now.number (length self.now.bytes.now)) (last + 1)) }
     {
+        let mut outside = false;
         let mut size = 0;
         for k in 0..last + 1 {
-            size += self.length_of(k)?;
+            let one = self.measure_one(k);
+            outside |= one.outside;
+            size += one.size;
         }
-        Some(size)
+        Measured { outside, size }
     }
 
     // Number k is put to out from a place on; the place after it.

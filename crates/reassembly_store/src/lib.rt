@@ -61,7 +61,7 @@ fn take(
     }
 }
 
-// A fragment of a neighbour arrives at the present second. The neighbour's share of record and room is all that it comes to.
+// A fragment of a neighbour arrives at the present second. The neighbour's share of record and room is all that it comes to. Each is passed as C passes it.
 // Record, room and buffer stay three: with a struct of three &mut slices, each function would promise that its fields stay the same references.
 pub fn arrive(
     rec: &mut [u8],
@@ -158,7 +158,6 @@ fn sweep_one(rec: &mut [u8], i: usize, second: u64)
     if reassembly_judge::is_old(reassembly_records::load_head(rec, i), second) {
         reassembly_records::save_head(rec, i, reassembly_judge::no_head());
         summary::lower(rec);
-        return;
     }
 }
 

@@ -1,6 +1,6 @@
 // A piece of a message taken into its neighbour's share of record and room: kept, or its message finished, or refused.
 // The record is a slice with a clause: docs/FREE.md names these functions for every slice that is long enough, and an array would ask for more; a struct round
-// the three &mut slices has each function promise that its fields stay the same references.
+// the three &mut slices has each function promise that its fields stay the same references. Slot and second go beside them, used one by one.
 #![tactic(auto)]
 
 ghost use Rattle.std.specs.Prelude.{◌≡◌, List, ℕ, ◌+◌, ◌<◌, ◌≤◌, length};
@@ -78,10 +78,11 @@ fn finish(
         number: piece.number(),
         bytes: piece.bytes,
     };
-    let Some(size) = joining.measure(last) else {
+    let m = joining.measure(last);
+    if m.outside {
         return Err(Refusal::LentShort);
-    };
-    if out.len() < size {
+    }
+    if out.len() < m.size {
         return Err(Refusal::BufferShort);
     }
     joining.assemble(room, out, last);
@@ -89,7 +90,7 @@ fn finish(
     Ok(Arrival::Finished {
         kind: g.kind,
         expires: g.expires,
-        length: size,
+        length: m.size,
     })
 }
 

@@ -34,7 +34,7 @@ fn pass<'a>(rec: &[u8], said: Measured<'a>, outstanding: usize) -> (usize, Walk<
     (outstanding, walk)
 }
 
-// The k-th packet moves down behind those that are kept; where all before it are, it stands there already.
+// The k-th packet moves down behind those that are kept; where all before it are, it stands there already. kept and k are two places, used one by one.
 fn keep_one(rec: &mut [u8], kept: usize, k: usize)
     requires { (sender_size ≤ length rec.old) × (kept ≤ k) × (k < most_outstanding) }
     ensures { rec.new ≡ splice rec.old (packets_at + kept * packet_size) (part rec.old (packets_at + k * packet_size) packet_size) }

@@ -1,4 +1,5 @@
 // Replays calls of the sender on one record, and compares each answer and the list after it; tests/sender_list.py says how the list was made and what its lines are.
+// as: std has no From between these widths; each number fits its place, or is cut on purpose.
 #![tactic(auto)]
 
 ghost use Rattle.std.specs.Prelude.{◌≤◌};

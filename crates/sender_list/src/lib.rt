@@ -1,4 +1,5 @@
 // The sender's calls but for the ack, on a record that the caller lends: changed in place, without a copy. All zero is a sender that has given out nothing.
+// Each call tests the record's length by itself, a line each: a function with `?` in its place would be as long.
 #![tactic(auto)]
 
 ghost use Rattle.std.specs.Prelude.{◌≡◌, ◌<◌, ◌≤◌, length, MatchOption};

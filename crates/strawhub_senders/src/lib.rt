@@ -1,4 +1,5 @@
 // C calls: the sender's list, each call a few lines over a proved function. The sender is 4,104 bytes that the caller keeps.
+// as usize: std has no From of a u32 for it.
 #![tactic(auto)]
 
 ghost use Rattle.std.specs.Prelude.{◌≡◌, length};
@@ -13,7 +14,7 @@ use numbers_outcomes::{Outcome, outcome_of};
 use refusals::Refusal;
 use sender::SENDER_SIZE;
 
-// What is told of an answer, in the words of the sender's definitions.
+// What is told of an answer, in the words of the sender's definitions: `told_as`, where a From would name one definition for all.
 fn told(answer: Result<usize, Refusal>) -> Outcome
     ensures { result ≡ outcome (told_as answer).answer (told_as answer).value }
 {

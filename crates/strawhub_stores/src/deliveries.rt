@@ -8,7 +8,8 @@ use blocks::RefusedAt;
 use messages::Delivered;
 use numbers_outcomes::Outcome;
 
-// What was delivered put into the lent numbers; refused, they stay.
+// What was delivered put into the lent numbers; refused, they stay. C is told where by a number, and 60 of a message that was rebuilt.
+// as u64: std has no From of a usize for it.
 fn tell(answer: Result<Delivered, RefusedAt>, told: &mut [u64; 6]) -> Outcome
     ensures { (result ≡ delivery_outcome (received_as answer)) × (told.new ≡ delivery_numbers (received_as answer) told.old) }
 {

@@ -1,4 +1,4 @@
-// Store calls: the record is 9,352 bytes and the room 1,048,560 bytes that the caller keeps, as the last call left them.
+// Store calls, each lent as C passes it: the record is 9,352 bytes and the room 1,048,560 bytes that the caller keeps, as the last call left them.
 ghost use Rattle.std.specs.Prelude.{◌≡◌, false, not, eqb};
 ghost use Rattle.reassembly.specs.Calls.{lent, after};
 ghost use Rattle.reassembly.specs.Shares.{first_call, follow_on_call, swept, renewed, renewal};

@@ -17,7 +17,7 @@ use acks_tracker::recorded::{is_duplicate_in, register_in};
 use numbers_outcomes::{Outcome, outcome_of};
 use refusals::{Refusal, number_of};
 
-// All zero is a tracker that has seen nothing.
+// All zero is a tracker that has seen nothing. Its size and its two definitions are its own, so no function is shared with the sender and the store.
 fn begin(tracker: &mut [u8]) -> Result<(), Refusal>
     ensures { (number_of result ≡ new_answer tracker.old) × (tracker.new ≡ new_record tracker.old) }
 {
@@ -93,7 +93,7 @@ pub extern "C" fn strawhub_tracker_ack_block(tracker: &[u8], room: &mut [u8]) ->
     outcome_of(write_ack(report, room))
 }
 
-// 0 and how many numbers there are; or the number of the refusal, and 0.
+// 0 and how many numbers there are; or the number of the refusal, and 0. Its definition is `expanded_as`: a From would name one for all.
 fn expanded(answer: Result<usize, Refusal>) -> Expanded
     ensures { result ≡ expanded_as answer }
 {

@@ -1,46 +1,37 @@
-use mathlib.Core.Path.{◌≡◌, refl, sym}
-use mathlib.Core.Bool.{true, false}
+use mathlib.Core.Path.{sym, ◌∙◌}
 use Prim.Native.Nat.{◌+◌}
 use native.Mathlib.Omega.{arith}
 use borrow.Author.Rules.{rules}
-use Rattle.reassembly.specs.Joining.{joins_outside}
 use Rattle.reassembly.proofs.Joined.{measured}
 use Rattle.reassembly.proofs.Branches.{finished_59, finished_short, finished_out}
 use Rattle.reassembly_taking.proofs.finish.Goals as goal
 
-pub returns-in_default : goal.returns-in_default
-returns-in_default c =
+pub returns-then-m : goal.returns-then-m
+returns-then-m c =
     let a = c.args in
-    let k = c.number.result in
-    let last = c.from-last.result in
-    let o : joins_outside a.rec.now a.i k (last + 1) ≡ true = search rules in
-    finished_59 a.rec.now a.room.now a.out.now a.i a.piece.label a.g a.piece.bytes.now true k last c.number.ensures.0 (search rules) (sym o) refl
+    let m = c.measure-m in
+    finished_59 a.rec.now a.room.now a.out.now a.i a.piece.label a.g a.piece.bytes.now m.result.outside c.number.result c.from-last.result c.number.ensures.0 (search rules) m.ensures.0 c.if-m.true
 
-pub returns-then-out-size : goal.returns-then-out-size
-returns-then-out-size c =
+pub returns-then-out-m : goal.returns-then-out-m
+returns-then-out-m c =
     let a = c.args in
-    let k = c.number.result in
-    let last = c.from-last.result in
-    let n = c.in-Some.size in
-    let m = c.in-Some.ensures in
-    let e = measured a.rec.now a.room.now a.i k a.piece.bytes.now (last + 1) false n c.requires.1 c.requires.2 (sym m.0) m.1 refl in
-    finished_short a.rec.now a.room.now a.out.now a.i a.piece.label a.g a.piece.bytes.now false n k last c.number.ensures.0 (search rules) (sym m.0) refl e c.if-out-size.true
+    let m = c.measure-m in
+    let inside = c.if-m.false in
+    let e = measured a.rec.now a.room.now a.i c.number.result a.piece.bytes.now (c.from-last.result + 1) m.result.outside m.result.size c.requires.1 c.requires.2 m.ensures.0 m.ensures.1 inside in
+    finished_short a.rec.now a.room.now a.out.now a.i a.piece.label a.g a.piece.bytes.now m.result.outside m.result.size c.number.result c.from-last.result c.number.ensures.0 (search rules) m.ensures.0 inside e c.if-out-m.true
 
 pub assemble-requires : goal.assemble-requires
 assemble-requires c =
     let a = c.args in
-    let k = c.number.result in
-    let last = c.from-last.result in
-    let m = c.in-Some.ensures in
-    let e = measured a.rec.now a.room.now a.i k a.piece.bytes.now (last + 1) false c.in-Some.size c.requires.1 c.requires.2 (sym m.0) m.1 refl in
-    (search rules, search rules, m.0, omega (arith, e))
+    let m = c.measure-m in
+    let inside = c.if-m.false in
+    let e = measured a.rec.now a.room.now a.i c.number.result a.piece.bytes.now (c.from-last.result + 1) m.result.outside m.result.size c.requires.1 c.requires.2 m.ensures.0 m.ensures.1 inside in
+    (search rules, search rules, sym m.ensures.0 ∙ inside, omega (arith, e))
 
 pub returns : goal.returns
 returns c =
     let a = c.args in
-    let k = c.number.result in
-    let last = c.from-last.result in
-    let n = c.in-Some.size in
-    let m = c.in-Some.ensures in
-    let e = measured a.rec.now a.room.now a.i k a.piece.bytes.now (last + 1) false n c.requires.1 c.requires.2 (sym m.0) m.1 refl in
-    finished_out a.rec.now a.room.now a.out.now a.i a.piece.label a.g a.piece.bytes.now false n k last c.save_head.new.rec c.assemble.new.out c.no_head.result c.number.ensures.0 (search rules) (sym m.0) refl e c.if-out-size.false c.assemble.ensures c.no_head.ensures c.save_head.ensures
+    let m = c.measure-m in
+    let inside = c.if-m.false in
+    let e = measured a.rec.now a.room.now a.i c.number.result a.piece.bytes.now (c.from-last.result + 1) m.result.outside m.result.size c.requires.1 c.requires.2 m.ensures.0 m.ensures.1 inside in
+    finished_out a.rec.now a.room.now a.out.now a.i a.piece.label a.g a.piece.bytes.now m.result.outside m.result.size c.number.result c.from-last.result c.save_head.new.rec c.assemble.new.out c.no_head.result c.number.ensures.0 (search rules) m.ensures.0 inside e c.if-out-m.false c.assemble.ensures c.no_head.ensures c.save_head.ensures

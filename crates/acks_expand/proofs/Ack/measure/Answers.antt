@@ -27,7 +27,7 @@ loop-pair-preserved c =
 pub invariant_of-result : goal.invariant_of-result
 invariant_of-result c =
     let m = measured _ _ _ _ _ _ c.loop-pair.invariant (omega (arith, c.as_chunks.ensures.front_len)) (omega arith) in
-    record { named = m.0; ends = m.1 }
+    record { named = m.1; ends = m.2 }
 
 pub returns-then-sum-limit : goal.returns-then-sum-limit
 returns-then-sum-limit c = (within _ _ _ _ _ _ c.loop-pair.invariant (omega (arith, c.as_chunks.ensures.front_len)) (omega arith), refl)
