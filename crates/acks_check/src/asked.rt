@@ -112,7 +112,7 @@ fn comes_back(a: &AckInfo) -> bool {
     let mut room = [0u8; 262];
     let mut mine = [0u32; 512];
     let mut theirs = [0u32; 512];
-    if acks_reports::ack_block::write_ack(Ok(*a), &mut room).is_err() {
+    if acks_reports::ack_block::write_ack::<Refusal>(Ok(*a), &mut room).is_err() {
         return false;
     }
     let m = expanded::named_of(a, &mut mine);

@@ -1,3 +1,3 @@
 -- The laws that the functions' proofs cite.
-pub mod Chunks
+pub mod Front
 pub mod Written

@@ -88,17 +88,34 @@ fn is_sound(payload: &[u8], body: usize, kind: u8, size: usize) -> bool
     is_tested(kind, size)
 }
 
+// What `extent_of` says, out of line: a listing asks it only of the block that ends it.
+#[cold]
+#[inline(never)]
+fn rare_extent(payload: &[u8], at: usize) -> Result<End, RefusedAt>
+    ensures { extent_as result ≡ extent_at payload.now at }
+{
+    extent_of(payload, at)
+}
+
+// The same, inlined: the place for the answer is then cleared here, not at each block of a listing.
+#[inline(always)]
+fn unsound_extent(payload: &[u8], at: usize) -> Result<End, RefusedAt>
+    ensures { extent_as result ≡ extent_at payload.now at }
+{
+    rare_extent(payload, at)
+}
+
 // What `extent_of` says, with a sound block known at once: a listing asks this.
 pub fn quick_extent(payload: &[u8], at: usize) -> Result<End, RefusedAt>
     ensures { extent_as result ≡ extent_at payload.now at }
 {
     let Some(head) = head_at(payload, at) else {
-        return extent_of(payload, at);
+        return unsound_extent(payload, at);
     };
     let body = at + 3;
     let need = body_length(head.kind, head.size);
     if payload.len() - body < need {
-        return extent_of(payload, at);
+        return unsound_extent(payload, at);
     }
     if is_sound(payload, body, head.kind, usize::from(head.size)) {
         return Ok(End {
@@ -107,5 +124,5 @@ pub fn quick_extent(payload: &[u8], at: usize) -> Result<End, RefusedAt>
             next: body + need,
         });
     }
-    extent_of(payload, at)
+    unsound_extent(payload, at)
 }

@@ -115,6 +115,9 @@ fn is_version(v: u8) -> bool
     matches!(v, 2 | 3 | 4)
 }
 
+// A header with a key has so many bytes.
+const KEYED_SIZE: usize = 64;
+
 // The type of a packet of n bytes whose first 16 are these, or its refusal.
 pub fn judge_read(head: &[u8; 16], n: usize) -> Result<MessageType, Refusal>
     ensures { typed result ≡ judged (get_or head.now 12 0) (front_refusal head.now n) }
@@ -124,7 +127,7 @@ pub fn judge_read(head: &[u8; 16], n: usize) -> Result<MessageType, Refusal>
     if !kind.takes_version(head[13]) {
         return Err(Refusal::Version);
     }
-    if kind.is_keyed() && n < 64 {
+    if kind.is_keyed() && n < KEYED_SIZE {
         return Err(Refusal::KeyMissing);
     }
     if kind.is_confirmed() && number != 0 {

@@ -73,6 +73,9 @@ fn compared(fields: &mut Fields, v: &Vector) -> Outcome {
     if text[..n] != want[..m] {
         return Outcome::Differs;
     }
+    if m != BLOCK {
+        return Outcome::Same;
+    }
     let stream = keystream::block(&v.key, v.counter, &v.nonce);
     if want[..m] == stream[..] {
         Outcome::SameBlock

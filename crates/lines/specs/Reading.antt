@@ -13,9 +13,9 @@ here f = field_at f.text.now f.at
 abbrev pub IsPast : ℕ → Fields → Fields → Type 0
 IsPast own old new = (new.text.now ≡ old.text.now) × (new.at ≡ past own old.text.now old.at)
 
--- the next line begins where the lines stand, and they stand past it then; or the text has ended there
+-- the next line begins where the lines stand, or the text has ended there; they stand past that place then
 abbrev pub GivesLine : Lines → Option Fields → Lines → Type 0
-GivesLine old None new = length old.next.text.now ≤ old.next.at
+GivesLine old None new = (length old.next.text.now ≤ old.next.at) × IsPast 10 old.next new.next
 GivesLine old (Some line) new =
     (old.next.at < length old.next.text.now) × (line.text.now ≡ old.next.text.now) × (line.at ≡ old.next.at) × IsPast 10 old.next new.next
 

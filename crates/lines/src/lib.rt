@@ -39,7 +39,7 @@ fn lead_of(text: &[u8], own: u8) -> usize
 }
 
 // The field at a place; past the text's end there is none, and it is empty.
-fn field(text: &[u8], at: usize) -> &[u8]
+pub fn field(text: &[u8], at: usize) -> &[u8]
     ensures { result.now ≡ field_at text.now at }
 {
     if text.len() < at {
@@ -60,7 +60,7 @@ fn past(text: &[u8], at: usize, own: u8) -> usize
 }
 
 // The place after the last whole line.
-fn whole(text: &[u8]) -> usize
+pub fn whole(text: &[u8]) -> usize
     ensures value { result ≡ whole_up_to text.now (length text.now) }
     ensures upper_bound { result ≤ length text.now }
 {
@@ -156,10 +156,10 @@ impl<'a> Iterator for Lines<'a> {
 
     fn next(&mut self) -> Option<Fields<'a>> {
         let line = self.next;
+        self.next.at = past(line.text, line.at, NEWLINE);
         if line.text.len() <= line.at {
             return None;
         }
-        self.next.at = past(line.text, line.at, NEWLINE);
         Some(line)
     }
 }
@@ -302,9 +302,10 @@ fn digit(b: u8) -> Option<u8>
 fn pair(high: u8, low: u8) -> Option<u8>
     ensures { unwrap_or result 256 ≡ pair_of high low }
 {
-    let high = digit(high)?;
-    let low = digit(low)?;
-    Some(high * 16 + low)
+    match (digit(high), digit(low)) {
+        (Some(high), Some(low)) => Some(high * 16 + low),
+        _ => None,
+    }
 }
 
 // Whether a field is bytes: each two digits of it are hex, and none is left over.

@@ -14,7 +14,7 @@ use Rattle.messages.specs.Delivery.{nothing, whole_at}
 abbrev pub received_as : Result Delivered RefusedAt → Received
 received_as (Ok D.Nothing) = nothing 0 0
 received_as (Ok (D.Whole kind id expires bytes)) = whole_at kind id expires bytes
-received_as (Ok (D.Rebuilt kind id expires length)) = record { number = 60; from = 2; kind = kind; id = id; expires = expires; start = 0; length = length }
+received_as (Ok (D.Rebuilt kind id expires bytes)) = record { number = 60; from = 2; kind = kind; id = id; expires = expires; start = bytes.start; length = bytes.len }
 received_as (Err r) = nothing (number r.refusal) r.place
 
 -- a first fragment, by its block's fields

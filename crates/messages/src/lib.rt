@@ -32,12 +32,12 @@ pub enum Delivered {
         expires: u32,
         bytes: Part,
     },
-    // The message that the block's piece finished: so many bytes at the start of the assembly buffer.
+    // The message that the block's piece finished: a part of the assembly buffer, which receive gives from the buffer's start.
     Rebuilt {
         kind: u8,
         id: u32,
         expires: u32,
-        length: usize,
+        bytes: Part,
     },
 }
 
@@ -57,7 +57,10 @@ fn rebuilt_by(at: usize, answer: Result<Arrival, Refusal>, id: u32) -> Result<De
             kind,
             id,
             expires,
-            length,
+            bytes: Part {
+                start: 0,
+                len: length,
+            },
         }),
         Err(refusal) => Err(RefusedAt { refusal, place: at }),
     }
@@ -129,6 +132,7 @@ fn id_of(fragment: Fragment) -> u32
 
 // A fragment, whose bytes are a part of the payload, handed to the store.
 // Record, room and buffer stay three: with a struct of three &mut slices, each function would promise that its fields stay the same references.
+#[inline(always)]
 fn deliver_fragment(
     payload: &[u8],
     at: usize,
@@ -234,7 +238,7 @@ pub fn message<'a>(
     match answer {
         Ok(Delivered::Nothing) => &out[0..0],
         Ok(Delivered::Whole { bytes, .. }) => shown(payload, bytes.start, bytes.len),
-        Ok(Delivered::Rebuilt { length, .. }) => shown(out, 0, length),
+        Ok(Delivered::Rebuilt { bytes, .. }) => shown(out, bytes.start, bytes.len),
         Err(_) => &out[0..0],
     }
 }

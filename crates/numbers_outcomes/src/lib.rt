@@ -3,9 +3,9 @@
 
 ghost use Rattle.std.specs.Prelude.{◌≡◌};
 ghost use Rattle.numbers_outcomes.specs.Outcomes.{outcome, write_outcome};
-ghost use Rattle.refusals.specs.Numbers.{number, numbered};
+ghost use Rattle.refusals.specs.Numbers.{numbered_by};
 
-use refusals::Refusal;
+use refusals::Numbered;
 
 // 0 and a length or a place; or the number of the refusal and, where a block is read, its place. Number and value in one struct: C is given it.
 #[repr(C)]
@@ -27,20 +27,20 @@ impl Outcome {
         }
     }
 
-    // The number of a refusal, and a value.
-    pub fn refused(refusal: Refusal, value: usize) -> Outcome
-        ensures { result ≡ outcome (number refusal) value }
+    // The number of a refusal, or any number, and a value.
+    pub fn refused<E: Numbered>(refusal: E, value: usize) -> Outcome
+        ensures { result ≡ outcome (E.as_number refusal) value }
     {
         Outcome {
-            number: u64::from(refusal.number()),
+            number: u64::from(refusal.as_number()),
             value: value as u64,
         }
     }
 }
 
-// 0 and what was answered; or the number of the refusal, and 0.
-pub fn outcome_of(answer: Result<usize, Refusal>) -> Outcome
-    ensures { result ≡ write_outcome (numbered answer) }
+// 0 and what was answered; or the number of the refusal, or any number in its place, and 0.
+pub fn outcome_of<E: Numbered>(answer: Result<usize, E>) -> Outcome
+    ensures { result ≡ write_outcome (numbered_by E.as_number answer) }
 {
     match answer {
         Ok(value) => Outcome::done(value),

@@ -106,9 +106,9 @@ pub struct Reply {
     pub length: usize,
 }
 
-// A number, and no message.
+// A number, and no message. docs/FREE.md names it, for every number and not those of a refusal alone.
 #[tactic(auto, unfolding(crate::specs::Calls::bare))]
-fn bare(number: u8) -> Reply
+pub fn bare(number: u8) -> Reply
     ensures { result ≡ bare number }
 {
     Reply {

@@ -2,7 +2,7 @@
 // as: std has no From between these widths; each number fits its place, or is cut on purpose.
 #![tactic(auto)]
 
-ghost use Rattle.std.specs.Prelude.{◌≤◌};
+ghost use Rattle.std.specs.Prelude.{◌<◌, ◌≤◌};
 
 use lines::{Fields, Lines, Tally};
 use reassembly::{Arrival, Fragment, RECORD_SIZE, ROOM_SIZE, Reply};
@@ -100,7 +100,9 @@ fn byte(seed: u64, j: usize) -> u8 {
 }
 
 // A sum that knows the order of its bytes, with one byte more.
-fn mixed(sum: u16, b: u8) -> u16 {
+fn mixed(sum: u16, b: u8) -> u16
+    ensures { result < 65521 }
+{
     ((u32::from(sum) * 31 + u32::from(b) + 1) % 65521) as u16
 }
 
@@ -153,7 +155,7 @@ impl Store {
         };
         l.is_reply(r)
             && u64::from(message.iter().fold(0, |sum, b| mixed(sum, *b))) == l.sum
-            && rest.iter().all(|b| *b == MARK)
+            && rest.iter().fold(true, |marked, b| marked & (*b == MARK))
     }
 }
 

@@ -26,6 +26,7 @@ fn is_short(rec: &[u8], room: &[u8]) -> bool
 }
 
 // A fragment is taken into its neighbour's share.
+#[inline(always)]
 fn take(
     rec: &mut [u8],
     room: &mut [u8],
@@ -63,6 +64,8 @@ fn take(
 
 // A fragment of a neighbour arrives at the present second. The neighbour's share of record and room is all that it comes to. Each is passed as C passes it.
 // Record, room and buffer stay three: with a struct of three &mut slices, each function would promise that its fields stay the same references.
+// inline(always) here, on take and on deliver_fragment of messages: by calls, each fragment and each answer would go through memory once more.
+#[inline(always)]
 pub fn arrive(
     rec: &mut [u8],
     room: &mut [u8],

@@ -9,6 +9,7 @@ ghost use Rattle.reassembly.specs.Sizes.{slot_size, share_room, share_size};
 ghost use Rattle.reassembly.specs.Calls.{lent, after, bare, kept_rec, kept_room, finished, put_in, compared, added, opened_in, opened_now, remembered_after, taken_piece, bad_size, off_number, first_taken, follow_on_taken};
 ghost use Rattle.reassembly.specs.Arrivals.{reply_of};
 
+pub use reassembly::bare;
 use reassembly::{Arrival, Entry, Head, Label, MESSAGE_SIZE, SLOT_SIZE};
 use reassembly_slots::pieces::{self, Joining};
 use reassembly_slots::summary;

@@ -50,7 +50,11 @@ abbrev pub number_of : {T : Type 0} → Result T Refusal → ℕ
 number_of (Ok _) = 0
 number_of (Err r) = number r
 
--- the same answer, with its refusal by number
+-- an answer, with what it refuses by as a number
+abbrev pub numbered_by : {T E : Type 0} → (E → ℕ) → Result T E → Result T ℕ
+numbered_by f (Ok x) = Ok x
+numbered_by f (Err e) = Err (f e)
+
+-- the same of a refusal, by its number
 abbrev pub numbered : {T : Type 0} → Result T Refusal → Result T ℕ
-numbered (Ok x) = Ok x
-numbered (Err r) = Err (number r)
+numbered answer = numbered_by number answer

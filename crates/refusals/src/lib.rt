@@ -1,7 +1,7 @@
 // The refusals of document 01 and of its change requests. A call answers `Err` of one of them; its number is made for C alone.
 #![tactic(auto)]
 
-ghost use Rattle.std.specs.Prelude.{◌≡◌};
+ghost use Rattle.std.specs.Prelude.{◌≡◌, ℕ};
 ghost use Rattle.refusals.specs.Numbers.{number, number_of};
 
 // Why a call refused, in the names of the Rust crate. The value is the refusal's number.
@@ -102,5 +102,40 @@ pub fn number_of(answer: Result<(), Refusal>) -> u8
     match answer {
         Ok(()) => 0,
         Err(refusal) => refusal.number(),
+    }
+}
+
+// What tells of a refusal by a number: a refusal of 01, or a number alone, whatever it is. What hands one on takes either.
+pub trait Numbered: Copy {
+    ghost as_number: { Self → ℕ };
+
+    fn of(refusal: Refusal) -> Self
+        ensures { as_number result ≡ number refusal };
+
+    fn as_number(self) -> u32
+        ensures { result ≡ as_number self };
+}
+
+impl Numbered for Refusal {
+    ghost as_number = { number };
+
+    fn of(refusal: Refusal) -> Refusal {
+        refusal
+    }
+
+    fn as_number(self) -> u32 {
+        u32::from(self.number())
+    }
+}
+
+impl Numbered for u32 {
+    ghost as_number = { λ x. x };
+
+    fn of(refusal: Refusal) -> u32 {
+        u32::from(refusal.number())
+    }
+
+    fn as_number(self) -> u32 {
+        self
     }
 }

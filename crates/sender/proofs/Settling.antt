@@ -8,7 +8,7 @@ use lib.ListN.{length, set, length-append}
 use Rattle.wire.specs.Parts.{part, splice}
 use Rattle.wire.specs.Numbers.{Bytes, little_at, little_bytes}
 use Rattle.wire.specs.Series.{series}
-use Rattle.wire.proofs.Parts.{part_after, splice_then}
+use Rattle.wire.proofs.Parts.{length_splice, part_after, splice_then}
 use Rattle.wire.proofs.Slices.{splice_none, splice_more}
 use Rattle.wire.proofs.Series.{series_more}
 use Rattle.acks.specs.Window.{keep}
@@ -99,6 +99,12 @@ module _ {test : ℕ → Bool} {rec₀ settled₀ : List ℕ} {k : ℕ} {rec set
 
   length_kept : length (packets_bytes (left test rec₀ k)) ≡ kept * packet_size
   length_kept = length_packets (left test rec₀ k) ∙ ap (λ (n : ℕ). n * packet_size) (sym s.counts)
+
+  pub same_length : length rec ≡ length rec₀
+  same_length = ap length s.keeps ∙ length_splice rec₀ packets_at (packets_bytes (left test rec₀ k)) (omega (arith, length_kept, kept_below))
+
+  pub same_room : most_outstanding ≤ length settled₀ → length settled ≡ length settled₀
+  same_room room = ap length s.tells ∙ length_splice settled₀ 0 (gone test rec₀ k) (omega (arith, s.adds_up))
 
   -- the packets not passed yet are as they were
   packet_there : packet_at rec k ≡ packet_at rec₀ k

@@ -6,7 +6,7 @@ use mathlib.Core.List.{List, ◌++◌}
 use Prim.Native.Nat.{ℕ, zero, suc, ◌+◌, ◌-◌, ◌*◌, ◌≤◌, ◌<◌}
 use native.Mathlib.Omega.{arith}
 use lib.Dec.{ltb, eqb}
-use lib.ListN.{length}
+use lib.ListN.{length, set}
 use borrow.Author.Tests.{lt-ltb, le-ltb}
 use Rattle.wire.specs.Parts.{part, splice}
 use Rattle.wire.specs.Numbers.{Bytes, little_at, little_bytes}
@@ -31,6 +31,9 @@ stays_there rec kept k long few e = rw e (sym (splice_part rec (packets_at + k *
 module _ (test : ℕ → Bool) (rec settled : List ℕ) (kept k number : ℕ) (named : Bool) (en : number ≡ (packet_at rec k).number) (et : named ≡ test number) where
   names_it : test (packet_at rec k).number ≡ named
   names_it = sym (et ∙ ap test en)
+
+  pub passed_named : (next at : ℕ) → next ≡ kept → at ≡ k - kept → named ≡ true → Passed (test (packet_at rec k).number) k kept next rec rec settled (set settled at number)
+  passed_named next at e f t = record { counts = rw (names_it, t) e; moves = rw (names_it, t) refl; tells = rw (names_it, t, en, f) refl }
 
   pub passed_kept : (next : ℕ) (after : List ℕ) → next ≡ kept + 1 → named ≡ false → after ≡ splice rec (packets_at + kept * packet_size) (part rec (packets_at + k * packet_size) packet_size) → Passed (test (packet_at rec k).number) k kept next rec after settled settled
   passed_kept next after f t e = record { counts = rw (names_it, t) f; moves = rw (names_it, t, e) refl; tells = rw (names_it, t) refl }

@@ -79,6 +79,8 @@ pub extern "C" fn strawhub_sender_outstanding(
 ) -> Outcome
     ensures { (result ≡ outcome (lent_answer sender.now) (outstanding_there sender.now)) × (out.new ≡ packet_numbers sender.now k out.old) }
 {
+    // Asked before out is written: the count is then read once.
+    let count = sender_list::outstanding_in(sender);
     if let Some(packet) = sender_list::packet_in(sender, k) {
         *out = [
             u64::from(packet.number),
@@ -86,5 +88,5 @@ pub extern "C" fn strawhub_sender_outstanding(
             u64::from(packet.resends),
         ];
     }
-    told(sender_list::outstanding_in(sender))
+    told(count)
 }

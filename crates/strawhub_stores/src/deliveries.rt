@@ -42,16 +42,17 @@ fn tell(answer: Result<Delivered, RefusedAt>, told: &mut [u64; 6]) -> Outcome
                 kind,
                 id,
                 expires,
-                length,
+                bytes,
             },
         ) => {
+            let (start, length) = (bytes.start as u64, bytes.len as u64);
             *told = [
                 2,
                 u64::from(kind),
                 u64::from(id),
                 u64::from(expires),
-                0,
-                length as u64,
+                start,
+                length,
             ];
             Outcome {
                 number: 60,

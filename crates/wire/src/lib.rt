@@ -12,12 +12,14 @@ pub fn copy_to(dst: &mut [u8], at: usize, src: &[u8])
     dst[at..at + src.len()].copy_from_slice(src);
 }
 
-// n bytes from a place on move down to another; every other byte stays.
+// n bytes from a place on move down to another; every other byte stays. One by one, the lowest first: of this the compiler makes the C library's move, of `copy_within` it does not.
 pub fn move_down(b: &mut [u8], to: usize, from: usize, n: usize)
     requires { (to ≤ from) × (from + n ≤ length b.old) }
     ensures { b.new ≡ splice b.old to (part b.old from n) }
 {
-    b.copy_within(from..from + n, to);
+    for i in 0..n {
+        b[to + i] = b[from + i];
+    }
 }
 
 // Whether two slices hold the same bytes. Every byte is looked at, whatever the first ones are.
