@@ -17,6 +17,7 @@ use Rattle.messages.specs.Answers.{received_as}
 use Rattle.messages.specs.Delivery.{Delivery, delivery_with, nothing, whole_at, rebuilt_by, rebuilt, delivered_by, delivered_end, delivered}
 use Rattle.messages.proofs.Deliveries.{by_kind, other_is}
 
+-- what stands in the assembly buffer (`from` is 2) stands at its start
 abbrev Begins : Received → Type 0
 Begins r = r.from ≡ 2 → r.start ≡ 0
 
